@@ -1,0 +1,27 @@
+// Why a line, a call or a value is refused. A year in a case is the one that the refusal reports.
+#[derive(Clone, Copy, PartialEq, Eq, Debug)]
+pub enum Refusal {
+    Malformed,
+    UnknownLetter,
+    OutOfTurn,
+    WrongLength,
+    UnknownKind,
+    BadCode,
+    BadMaturity(u8),
+    BadQuotation(u8),
+    BadPrice(u8),
+    AfterConvergence(u8),
+    MaturityHeld(u8),
+    NoPlaceLeft(u8),
+    NoneHeld(u8),
+    BadYear(u8),
+    BadAmount(u8),
+    FlowHeld(u8),
+    NoFlow(u8),
+    TooShort(u8),
+    ForwardBelowRange(u8),
+    ForwardAboveRange(u8),
+    ForwardTooWide(u8),
+    NotSettled,
+    OutsideHorizon(u8),
+}
