@@ -9,7 +9,7 @@ ghost use Rattle.instruments.specs.declared.refusal.Refusal.{Refusal};
 use crate::class::Class;
 use crate::refusal::Refusal;
 
-pub trait Instrument: Sized {
+pub trait Instrument: Copy {
     // A plain record of numbers, bound by no rule.
     type Row: Copy;
 

@@ -1,0 +1,12 @@
+pub mod Blending
+pub mod Currencies
+pub mod Curves
+pub mod Exact
+pub mod Market
+pub mod Questions
+pub mod Range
+pub mod Rates
+pub mod Reserve
+pub mod Settling
+pub mod Steps
+pub mod Worths
