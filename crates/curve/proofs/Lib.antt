@@ -9,9 +9,11 @@ pub mod Edges
 pub mod Enclosure
 pub mod Extension
 pub mod Gaps
+pub mod Marked
 pub mod Outward
 pub mod RateBounds
 pub mod ReserveBounds
+pub mod Settled
 pub mod Settlement
 pub mod Shares
 pub mod Stripped

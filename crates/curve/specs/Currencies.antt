@@ -1,7 +1,8 @@
 -- The terms of a currency as a span of years: its last liquid point and its time of convergence.
-use mathlib.Core.Bool.{Bool, cond, _&&_}
+use mathlib.Core.Bool.{Bool, false, cond, _&&_}
 use mathlib.Core.List.{List}
 use lib.Chars.{codes}
+use lib.Dec.{ltb}
 use lib.ListN.{getD}
 use Prim.Native.Nat.{ℕ}
 use Rattle.std.specs.Options.{mapped}
@@ -41,3 +42,8 @@ letters code = asciiUpper (getD code 0 0) && asciiUpper (getD code 1 0) && ascii
 -- the span of a code, which is refused unless it is made of letters
 abbrev pub span-of : List ℕ → Result (Option (ℕ × ℕ)) Refusal
 span-of code = if-kept (letters code) BadCode (Ok (currency-span code))
+
+-- whether a maturity lies after the convergence, where there is one
+abbrev pub after-convergence : Option (ℕ × ℕ) → ℕ → Bool
+after-convergence None m = false
+after-convergence (Some (liquid, convergence)) m = ltb convergence m

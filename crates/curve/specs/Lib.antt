@@ -2,6 +2,7 @@ pub mod Blending
 pub mod Currencies
 pub mod Curves
 pub mod Exact
+pub mod Figures
 pub mod Market
 pub mod Questions
 pub mod Range

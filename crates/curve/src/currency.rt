@@ -2,7 +2,7 @@
 ghost use mathlib.Core.Path.{_≡_};
 ghost use Rattle.std.specs.shelf.Text.{sameBytes};
 ghost use Rattle.instruments.specs.Law.{ok-map};
-ghost use Rattle.curve.specs.Currencies.{blend-span, span, currency-span, span-of};
+ghost use Rattle.curve.specs.Currencies.{after-convergence, blend-span, span, currency-span, span-of};
 use crate::terms::Blend;
 use crate::terms::Terms;
 use instruments::refusal::Refusal;
@@ -50,6 +50,16 @@ impl Terms {
             })
         } else {
             Err(Refusal::BadCode)
+        }
+    }
+
+    // Whether a maturity lies after the convergence, if there is a blend.
+    pub fn converged(&self, maturity: u8) -> bool
+        ensures { λ r. ⌜ r ≡ after-convergence (span (now (self .entry))) maturity ⌝ }
+    {
+        match self.blend {
+            Some(blend) => maturity > blend.convergence,
+            None => false,
         }
     }
 

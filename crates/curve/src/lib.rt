@@ -2,6 +2,7 @@
 pub mod blend;
 pub mod currency;
 pub mod discount;
+pub mod figures;
 mod gap;
 mod questions;
 mod rates;
