@@ -76,7 +76,7 @@ impl<'a, K: Instrument> Book<'a, K> {
             return Err(Refusal::NoPlaceLeft(maturity));
         }
         self.places.enter(at, quotation.to_row());
-        self.curve = None;
+        self.curve = None; // its figures lack the new quotation
         Ok(())
     }
 
@@ -92,7 +92,7 @@ impl<'a, K: Instrument> Book<'a, K> {
             return Err(Refusal::NoneHeld(maturity));
         }
         self.places.withdraw(at);
-        self.curve = None;
+        self.curve = None; // its figures rest on the quotation withdrawn
         Ok(())
     }
 

@@ -3,11 +3,13 @@ use mathlib.Core.Path.{_≡_, refl, sym, ap, _∙_}
 use mathlib.Core.List.{List}
 use Prim.Native.Nat.{ℕ, _+_, _-_, _≤_, _<_, min}
 use native.Mathlib.Omega.{arith}
+use lib.Dec.{leb}
 use lib.ListN.{length}
 use Rattle.std.proofs.shelf.Counted.{fill-by-all}
+use Rattle.std.proofs.shelf.Tests.{cond-true, le-leb}
 use Rattle.std.specs.declared.option.Option.{Option}
 use Rattle.std.specs.declared.option.Option.the-variants.{None, Some}
-use Rattle.curve.specs.Blending.{weight, discount-growth, discount-factor, discounted, discount, horizon-tables}
+use Rattle.curve.specs.Blending.{weight, blended-growth, discount-growth, discount-factor, discounted, discount, horizon-tables}
 use Rattle.curve.specs.Currencies.{blend-span}
 use Rattle.curve.specs.Market.{by-year, entry, growth-of, factor-of, InRange, Ordered}
 use Rattle.curve.specs.Range.{unit, least, most}
@@ -18,7 +20,7 @@ use Rattle.curve.specs.declared.tables.Tables.{Tables}
 use Rattle.curve.specs.declared.terms.Blend.{Blend}
 use Rattle.curve.proofs.Bounds.{factor-small}
 use Rattle.curve.proofs.Continuation.{continued-known, continued-turn, continued-under, continued-small}
-use Rattle.curve.proofs.Weights.{weight-of, blended-range, blended-sides, blended-near}
+use Rattle.curve.proofs.Weights.{weight-of, blended-range, blended-sides, blended-near, blended-market}
 
 module _ (b : Option Blend) (T : Tables) (o : Ordered T) where
   growth-range : (σ : Side) (t : ℕ) → t ≤ 120 → (least ≤ discount-growth (blend-span b) T σ t) × (discount-growth (blend-span b) T σ t ≤ most)
@@ -45,6 +47,15 @@ module _ (b : Option Blend) (T : Tables) (o : Ordered T) where
           (λ u a. o .discounting u (omega arith) .0) (λ u a e. omega (arith, growth-range Low u (omega arith) .0)) (λ u a e. growth-sides u (omega arith)),
       factor-unit High t h,
     )
+
+-- up to the last liquid point the growths are the market's
+pub growths-known : (b : Option Blend) (x : Blend) → b ≡ Some x → (T : Tables) (t : ℕ) → t ≤ x .liquid → entry (T .growths) t ≡ pair (λ σ. discount-growth (blend-span b) T σ t)
+growths-known None x e T t h = let z : _≡_ {A = ℕ} 0 1 = cc in absurd (omega arith)
+growths-known (Some y) x e T t h =
+    let same : y ≡ x = cc in
+    let none : weight (blend-span (Some y)) t ≡ (0, 1) = cond-true (leb t (y .liquid)) _ _ (le-leb t (y .liquid) (omega (arith, ap (λ z. z .liquid) same))) in
+    let known = λ (σ : Side). sym (ap (λ w. blended-growth σ w (growth-of T σ t)) none ∙ blended-market σ (growth-of T σ t)) in
+    λ i. (known Low i, known High i)
 
 -- up to year s the factors are the market's
 pub discount-known : (span : Option (ℕ × ℕ)) (T : Tables) (s t : ℕ) → t ≤ s → entry (T .factors) t ≡ pair (λ σ. discount-factor span T s σ t)

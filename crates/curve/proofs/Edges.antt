@@ -57,6 +57,11 @@ edge-range σ test =
     let s = place-range σ (r .0) (r .1) in
     (omega (arith, r .2, s .0), omega (arith, r .2, s .1))
 
+-- the edge is the last place where that passes, and only there
+pub edge-last : (σ : Side) (test : ℕ → Bool) → test (place σ (most - least)) ≡ true → edge σ test ≡ place σ (most - least)
+unfolding edge
+edge-last σ test pass = furthest-is σ test (most - least) (most - least) (omega arith) (inr pass) (λ j more within. absurd (omega arith))
+
 -- the edge of a falling figure that is below the limit from b on
 abbrev pub ended : Side → ℕ → ℕ
 ended Low b = max least (b - 1)

@@ -10,6 +10,7 @@ pub mod Enclosure
 pub mod Extension
 pub mod Gaps
 pub mod Marked
+pub mod OneYear
 pub mod Outward
 pub mod RateBounds
 pub mod ReserveBounds

@@ -1,10 +1,11 @@
 -- What the search of a gap's growths answers in each case, and what is known where it answers two growths.
 use mathlib.Core.Path.{_≡_, refl, sym, ap, _∙_}
 use mathlib.Core.Bool.{Bool, true, false, cond}
+use mathlib.Core.Logic.{_⊎_, inl, inr}
 use Prim.Native.Nat.{ℕ, _+_, _-_, _*_, _≤_, _<_}
 use native.Mathlib.Omega.{arith}
 use lib.Dec.{leb, ltb}
-use Rattle.std.proofs.shelf.Tests.{cond-true, cond-false, lt-ltb, le-ltb, le-leb, lt-leb, ltb-false, leb-false}
+use Rattle.std.proofs.shelf.Tests.{cases-lt, cond-true, cond-false, lt-ltb, le-ltb, le-leb, lt-leb, ltb-true, leb-true, ltb-false, leb-false}
 use Rattle.std.specs.declared.result.Result.{Result}
 use Rattle.std.specs.declared.result.Result.the-variants.{Ok, Err}
 use Rattle.instruments.specs.Law.{Meaning}
@@ -12,12 +13,39 @@ use Rattle.instruments.specs.Refusals.{reported}
 use Rattle.instruments.specs.declared.refusal.Refusal.{Refusal}
 use Rattle.instruments.specs.declared.refusal.Refusal.the-variants.{ForwardBelowRange, ForwardAboveRange, ForwardTooWide}
 use Rattle.curve.specs.Range.{least, most}
-use Rattle.curve.specs.Steps.{reaches, pair}
+use Rattle.curve.specs.Steps.{reaches, reaching, pair}
 use Rattle.curve.specs.Market.{admitted, limit, found, found-growths}
 use Rattle.curve.specs.declared.side.Side.{Side}
 use Rattle.curve.specs.declared.side.Side.the-variants.{Low, High}
+use Rattle.curve.proofs.Edges.{edge-passes, edge-last}
 
 module _ (w : Side → ℕ → ℕ) (x : Meaning) where
+  -- the high growth is the least of the range if even that is too large, and only then
+  pub below-range : found w (x .price) High ≡ least → w High least < admitted Low (x .price)
+  below-range e = elim (edge-passes High (reaching High (w High) (limit High (x .price)))) [
+    | inl none ↦ absurd (omega arith)
+    | inr pass ↦ ltb-true _ _ (ap (λ g. ltb (w High g) (admitted Low (x .price))) (sym e) ∙ pass)
+  ]
+
+  pub not-below : (found w (x .price) High ≡ least → ⊥) → admitted Low (x .price) ≤ w High least
+  not-below other = elim (cases-lt (w High least) (admitted Low (x .price))) [
+    | inl less ↦ absurd (other (edge-last High (reaching High (w High) (limit High (x .price))) (lt-ltb _ _ less)))
+    | inr enough ↦ enough
+  ]
+
+  -- and the low growth the greatest if even that is too small
+  pub above-range : found w (x .price) Low ≡ most → admitted High (x .price) < w Low most
+  above-range e = elim (edge-passes Low (reaching Low (w Low) (limit Low (x .price)))) [
+    | inl none ↦ absurd (omega arith)
+    | inr pass ↦ omega (arith, leb-true _ _ (ap (λ g. leb (admitted High (x .price) + 1) (w Low g)) (sym e) ∙ pass))
+  ]
+
+  pub not-above : (found w (x .price) Low ≡ most → ⊥) → w Low most ≤ admitted High (x .price)
+  not-above other = elim (cases-lt (admitted High (x .price)) (w Low most)) [
+    | inl more ↦ absurd (other (edge-last Low (reaching Low (w Low) (limit Low (x .price))) (le-leb _ _ (omega arith))))
+    | inr not-more ↦ not-more
+  ]
+
   pub refused-below : w High least < admitted Low (x .price) → Err (ForwardBelowRange (x .maturity)) ≡ found-growths w x
   unfolding found-growths
   refused-below h = sym (cond-true (ltb (w High least) (admitted Low (x .price))) _ _ (lt-ltb _ _ h))

@@ -1,11 +1,12 @@
 -- What holds of a growth weighed with the ultimate one.
+use mathlib.Core.Path.{_≡_, ap, _∙_}
 use mathlib.Core.Bool.{cond}
 use mathlib.Core.Logic.{_⊎_, inl, inr}
 use Prim.Native.Nat.{ℕ, _+_, _-_, _*_, _≤_, _<_}
 use native.Mathlib.Nat.{mul-le-mul-left, add-mul, mul-add, lt-div-mul-add}
 use native.Mathlib.Omega.{arith}
 use lib.Dec.{leb}
-use Rattle.std.proofs.shelf.Tests.{cond-both, leb-true, leb-false}
+use Rattle.std.proofs.shelf.Tests.{cond-both, cond-false, lt-leb, leb-true, leb-false}
 use Rattle.std.specs.declared.option.Option.{Option}
 use Rattle.std.specs.declared.option.Option.the-variants.{None, Some}
 use Rattle.curve.specs.Blending.{weight, ultimate, blended-growth}
@@ -65,3 +66,24 @@ module _ (w : ℕ × ℕ) (is : Weight w) where
       let q = quotient Low a n in
       quotient-inmost High ((n - k) * h + k * ultimate) n (q + 1000) (is .whole)
       (omega (arith, is .part, is .fine, add-mul q 1000 n, mul-add (n - k) g 1000, mul-le-mul-left (n - k) le, lt-div-mul-add {a = a} {b = n} (is .whole)))
+
+-- after the convergence the ultimate rate has every part
+pub weight-late : (b : Option Blend) (x : Blend) → b ≡ Some x → (t : ℕ) → x .convergence < t → weight (blend-span b) t ≡ (1, 1)
+weight-late None x e t h = let z : _≡_ {A = ℕ} 0 1 = cc in absurd (omega arith)
+weight-late (Some y) x e t h =
+    let same : y ≡ x = cc in
+    let late : y .convergence < t = omega (arith, ap (λ z. z .convergence) same) in
+    cond-false (leb t (y .liquid)) _ _ (lt-leb t (y .liquid) (omega (arith, y .rises))) ∙ cond-false (leb t (y .convergence)) _ _ (lt-leb t (y .convergence) late)
+
+pub blended-ultimate : (σ : Side) (g : ℕ) → blended-growth σ (1, 1) g ≡ ultimate
+unfolding blended-growth
+blended-ultimate σ g =
+    let r = quotient-range σ ((1 - 1) * g + 1 * ultimate) 1 ultimate ultimate (omega arith) (omega arith) (omega arith) in
+    omega (arith, r .0, r .1)
+
+-- a growth that it has no part of stays
+pub blended-market : (σ : Side) (g : ℕ) → blended-growth σ (0, 1) g ≡ g
+unfolding blended-growth
+blended-market σ g =
+    let r = quotient-range σ ((1 - 0) * g + 0 * ultimate) 1 g g (omega arith) (omega arith) (omega arith) in
+    omega (arith, r .0, r .1)

@@ -67,6 +67,11 @@ impl Terms {
         requires { ⌜ InRange market ⌝ }
         ensures { λ r. ⌜ r ≡ blended-growths (weight (span (now (self .entry))) year) market ⌝ }
     {
+        if let Some(blend) = self.blend
+            && year > blend.convergence
+        {
+            return (ULTIMATE, ULTIMATE);
+        }
         let weight = self.weight(year);
         (
             Side::Low.blend(weight, market.0),
@@ -88,13 +93,14 @@ impl Curve {
         let mut factors = [(UNIT, UNIT); 121];
         for year in 0..HORIZON + 1 {
             let at = year as usize;
-            let blended = terms.growths(year, self.tables.growths[at]);
+            let mut blended = self.tables.growths[at];
+            let mut factor = self.tables.factors[at];
+            if year > known {
+                blended = terms.growths(year, blended);
+                factor = discounted(factors[at - 1], blended);
+            }
             growths[at] = blended;
-            factors[at] = if year <= known {
-                self.tables.factors[at]
-            } else {
-                discounted(factors[at - 1], blended)
-            };
+            factors[at] = factor;
         }
         Curve {
             tables: Tables {

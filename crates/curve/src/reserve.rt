@@ -57,14 +57,15 @@ impl Curve {
         ensures { λ r. ⌜ ((σ : Side) → left-of r σ ≡ left-of «so_far» σ +ℤ share (now (self .entry) .tables) year amount σ) ⌝ }
         ensures { λ r. ⌜ Bounded (year + 1) r ⌝ }
     {
-        let (low, high) = self.portion(year, amount.unsigned_abs());
         let Balance { gains, losses } = so_far;
         if amount < 0 {
+            let (low, high) = self.portion(year, amount.unsigned_abs());
             Balance {
                 gains,
                 losses: (losses.0 + low, losses.1 + high),
             }
         } else {
+            let (low, high) = self.portion(year, amount as u32);
             Balance {
                 gains: (gains.0 + low, gains.1 + high),
                 losses,

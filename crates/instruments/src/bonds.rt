@@ -53,7 +53,13 @@ pub impl Instrument for Bond as BondInstrument {
 
     ghost read = { bond-read };
 
+    ghost framed = { 10 };
+
     ghost making = { bond-body };
+
+    fn frame_length() -> usize {
+        Self::LENGTH
+    }
 
     fn maturity(&self) -> u8 {
         self.maturity

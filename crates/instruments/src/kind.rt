@@ -31,11 +31,17 @@ pub trait Instrument: Copy {
     // The row of what is made for a class from a year and the kind's big-endian numbers, or why nothing is made.
     ghost making: { Class → List ℕ → Result Self·Row Refusal };
 
+    // The length that the associated constant states, for clauses, which cannot name a constant of a kind.
+    ghost framed: { ℕ };
+
     law lawful: { (x : Self) → Lawful (means x) };
 
     law rows: { (r : Self·Row) → Lawful (read r) };
 
     law back: { (x : Self) → read (row x) ≡ means x };
+
+    fn frame_length() -> usize
+        ensures { λ r. ⌜ r ≡ framed ⌝ };
 
     fn maturity(&self) -> u8
         ensures { λ r. ⌜ r ≡ means (now (self .entry)) .maturity ⌝ };

@@ -73,7 +73,13 @@ pub impl Instrument for Swap as SwapInstrument {
 
     ghost read = { swap-read };
 
+    ghost framed = { 6 };
+
     ghost making = { swap-body };
+
+    fn frame_length() -> usize {
+        Self::LENGTH
+    }
 
     fn maturity(&self) -> u8 {
         self.maturity

@@ -5,22 +5,24 @@ use crate::figure::UnitsDisplay;
 use crate::stop::Stop;
 use crate::stop::StopFromError;
 use crate::stop::StopFromRefusal;
+use book::volume::Book;
 use curve::discount::Curve;
 use curve::terms::Terms;
+use instruments::swap::Swap;
+use instruments::swaps::SwapInstrument;
 
-// The market curve, the terms on which it is blended, and the discount curve that it then is.
+// The market curve, and the terms on which it is blended.
 #[derive(Clone, Copy)]
 pub struct Blending<'a> {
     pub market: &'a Curve,
     pub terms: &'a Terms,
-    pub curve: &'a Curve,
 }
 
 impl Blending<'_> {
-    fn print_year(&self, rt: &LibcRuntime, year: u8) -> Result<(), Stop> {
+    fn print_year(&self, rt: &LibcRuntime, book: &Book<'_, Swap>, year: u8) -> Result<(), Stop> {
         let (part, whole) = self.terms.weight(year);
         let market = Bracket::of_units(self.market.forward(year)?);
-        let blended = Bracket::of_units(self.curve.forward(year)?);
+        let blended = Bracket::of_units(book.forward(year)?);
         println!(
             rt,
             "{year:>4}  {part:>3}/{whole:<2}  {market:>12}  {blended:>12}"
@@ -28,8 +30,8 @@ impl Blending<'_> {
         Ok(())
     }
 
-    // From the year after the last liquid point to the time of convergence.
-    pub fn print(&self, rt: &LibcRuntime) -> Result<(), Stop> {
+    // From the year after the last liquid point to the time of convergence, the market's forwards beside those of the settled book.
+    pub fn print(&self, rt: &LibcRuntime, book: &Book<'_, Swap>) -> Result<(), Stop> {
         println!(
             rt,
             "\n3. Forwards blended with the ultimate forward rate, by the weight of that rate\n"
@@ -42,7 +44,7 @@ impl Blending<'_> {
             return Ok(());
         };
         for year in liquid.saturating_add(1)..convergence.saturating_add(1) {
-            self.print_year(rt, year)?;
+            self.print_year(rt, book, year)?;
         }
         Ok(())
     }

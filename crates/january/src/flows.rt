@@ -15,19 +15,21 @@ use crate::input::FLOWS;
 use crate::stop::Stop;
 use crate::stop::StopFromError;
 use crate::stop::StopFromRefusal;
+use book::volume::Book;
 use curve::discount::Curve;
 use instruments::refusal::Refusal;
+use instruments::swap::Swap;
+use instruments::swaps::SwapInstrument;
 
-// At most one flow for each year 0 to 120, in kronor.
-type Flows = [Option<i32>; 121];
-
-// The flows of the input, from year 1 on.
-pub fn by_year() -> Flows {
-    let mut flows = [None; 121];
-    for at in 0..FLOWS.len() {
-        flows[at + 1] = Some(FLOWS[at]);
+// Posts each flow to the book.
+pub fn post(rt: &LibcRuntime, book: &mut Book<'_, Swap>) -> Result<(), Stop> {
+    let mut year: u8 = 0;
+    for amount in FLOWS {
+        year = year.saturating_add(1);
+        book.post(year, amount)?;
     }
-    flows
+    println!(rt, "Posted: {year} flows, of the years 1 to {year}")?;
+    Ok(())
 }
 
 // What one flow adds to the reserve: the reserve of a table that holds it alone.
@@ -49,19 +51,17 @@ fn print_share(rt: &LibcRuntime, curve: &Curve, year: usize, amount: i32) -> Res
     Ok(())
 }
 
-pub fn print_shares(rt: &LibcRuntime, curve: &Curve, flows: &Flows) -> Result<(), Stop> {
+pub fn print_shares(rt: &LibcRuntime, curve: &Curve) -> Result<(), Stop> {
     println!(rt, "\n5. Cash flows, and what each adds to the reserve\n")?;
     println!(rt, "year        amount       share low      share high")?;
-    for year in 0..flows.len() {
-        if let Some(amount) = flows[year] {
-            print_share(rt, curve, year, amount)?;
-        }
+    for at in 0..FLOWS.len() {
+        print_share(rt, curve, at + 1, FLOWS[at])?;
     }
     Ok(())
 }
 
-pub fn print_reserve(rt: &LibcRuntime, curve: &Curve, flows: &Flows) -> Result<(), Stop> {
-    let (low, high) = curve.reserve(flows)?;
+pub fn print_reserve(rt: &LibcRuntime, book: &Book<'_, Swap>) -> Result<(), Stop> {
+    let (low, high) = book.reserve()?;
     let least = Ore(low);
     let most = Ore(high);
     let apart = Ore(high.saturating_sub(low));

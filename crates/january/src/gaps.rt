@@ -24,7 +24,7 @@ fn print_gap(rt: &LibcRuntime, market: &Curve, first: u8, last: u8) -> Result<()
 pub fn print_gaps(rt: &LibcRuntime, market: &Curve, rows: &[SwapRow]) -> Result<(), Stop> {
     println!(
         rt,
-        "\n2. Market curve by gap: forwards, factors at maturity, and how many units low and high are apart\n"
+        "\n2. Market curve of the same quotations by gap: forwards, factors at maturity, and how many units low and high are apart\n"
     )?;
     println!(
         rt,

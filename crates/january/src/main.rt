@@ -1,5 +1,5 @@
-//! The reserve at year end of an occupational pension association: from swap quotations to a discount curve, and from cash flows to the
-//! reserve. Each step prints what it finds.
+//! The reserve at year end of an occupational pension association, through a book: swap quotations are entered, cash flows are posted, the
+//! book is settled, and it is asked for its discount curve and the reserve. Each step prints what it does and finds.
 mod blending;
 mod bracket;
 mod figure;
@@ -12,12 +12,17 @@ mod years;
 
 use crate::blending::Blending;
 use crate::input::CURRENCY;
+use crate::input::PLACES;
+use crate::quotations::UNUSED;
 use crate::stop::Stop;
 use crate::stop::StopFromError;
 use crate::stop::StopFromRefusal;
+use book::volume::Book;
+use curve::settle::settle;
 use curve::strip::strip;
 use curve::terms::Terms;
 use instruments::swap::Swap;
+use instruments::swap::SwapRow;
 use instruments::swaps::SwapInstrument;
 use std::io;
 
@@ -36,23 +41,37 @@ fn title(rt: &LibcRuntime) -> io::Result<()> {
     )
 }
 
-fn work_out(rt: &LibcRuntime) -> Result<(), Stop> {
-    title(rt)?;
-    let terms = Terms::of_code(CURRENCY)?;
-    let rows = quotations::enter(rt)?;
-    let market = strip::<Swap>(rows.as_slice())?;
-    gaps::print_gaps(rt, &market, rows.as_slice())?;
-    let curve = market.blended(&terms);
+// Asks a settled book. The market curve, and the curve that each flow's share is found by, come from the rows of the same quotations.
+fn ask(
+    rt: &LibcRuntime,
+    terms: Terms,
+    rows: &[SwapRow],
+    book: &Book<'_, Swap>,
+) -> Result<(), Stop> {
+    let market = strip::<Swap>(rows)?;
+    gaps::print_gaps(rt, &market, rows)?;
     let blending = Blending {
         market: &market,
         terms: &terms,
-        curve: &curve,
     };
-    blending.print(rt)?;
-    years::print_years(rt, &curve)?;
-    let flows = flows::by_year();
-    flows::print_shares(rt, &curve, &flows)?;
-    flows::print_reserve(rt, &curve, &flows)
+    blending.print(rt, book)?;
+    let curve = settle::<Swap>(&terms, rows)?;
+    years::print_years(rt, book, curve.horizon())?;
+    flows::print_shares(rt, &curve)?;
+    flows::print_reserve(rt, book)
+}
+
+fn work_out(rt: &LibcRuntime) -> Result<(), Stop> {
+    title(rt)?;
+    let terms = Terms::of_code(CURRENCY)?;
+    let mut places = [UNUSED; PLACES];
+    let mut book = Book::<Swap>::open(terms, &mut places);
+    println!(rt, "\nOpened: a book with {PLACES} places")?;
+    let rows = quotations::enter(rt, &mut book)?;
+    flows::post(rt, &mut book)?;
+    book.settle()?;
+    println!(rt, "Settled: the book has its discount curve")?;
+    ask(rt, terms, rows.as_slice(), &book)
 }
 
 fn main(rt: LibcRuntime) -> io::Result<()> {

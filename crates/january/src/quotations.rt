@@ -7,11 +7,19 @@ use crate::stop::Stop;
 use crate::stop::StopFromError;
 use crate::stop::StopFromRefusal;
 use crate::stop::StopFromRefused;
+use book::volume::Book;
 use instruments::kind::Instrument;
 use instruments::swap::Swap;
 use instruments::swap::SwapRow;
 use instruments::swaps::SwapInstrument;
 use std::io;
+
+// What a place has before the book uses it.
+pub const UNUSED: SwapRow = SwapRow {
+    maturity: 0,
+    quotation: 0,
+    class: CLASS,
+};
 
 fn print_quotation(rt: &LibcRuntime, swap: &Swap) -> io::Result<()> {
     let maturity = swap.maturity();
@@ -24,8 +32,8 @@ fn print_quotation(rt: &LibcRuntime, swap: &Swap) -> io::Result<()> {
     )
 }
 
-// The rows of the quotations, each printed as its swap is made.
-pub fn enter(rt: &LibcRuntime) -> Result<Vec<SwapRow>, Stop> {
+// Enters each quotation in the book, and gives the rows of all.
+pub fn enter(rt: &LibcRuntime, book: &mut Book<'_, Swap>) -> Result<Vec<SwapRow>, Stop> {
     println!(
         rt,
         "\n1. Swap quotations, less the deduction for occupational pension\n"
@@ -34,8 +42,11 @@ pub fn enter(rt: &LibcRuntime) -> Result<Vec<SwapRow>, Stop> {
     let mut rows = Vec::new(rt.alloc());
     for (maturity, quotation) in QUOTATIONS {
         let swap = Swap::new(maturity, quotation, CLASS)?;
+        book.enter(swap)?;
         print_quotation(rt, &swap)?;
         rows.push(swap.to_row())?;
     }
+    let entered = rows.len();
+    println!(rt, "\nEntered: {entered} quotations")?;
     Ok(rows)
 }

@@ -12,7 +12,7 @@ use Rattle.curve.specs.Range.{unit}
 use Rattle.curve.specs.Steps.{pair}
 use Rattle.curve.specs.declared.discount.Curve.{Curve}
 use Rattle.curve.specs.declared.side.Side.the-variants.{Low, High}
-use Rattle.curve.proofs.Blended.{growths-range, growths-near, factor-unit, factors-ordered, discount-known, discounted-turn, discount-is}
+use Rattle.curve.proofs.Blended.{growths-range, growths-near, factor-unit, factors-ordered, growths-known, discount-known, discounted-turn, discount-is}
 use Rattle.curve.proofs.discount.Curve.blended.Needs as need
 use Rattle.curve.proofs.discount.Curve.blended.Needs.{then-year-known, else-year-known}
 
@@ -41,15 +41,15 @@ loop-year-holds c =
 pub growths-blended-requires : need.growths-blended-requires
 growths-blended-requires c κs = c .args .self .now .growing (c .loop-year .year) (omega arith)
 
-pub discounted-requires : need.discounted-requires
-discounted-requires c κs =
+pub discounted-factor-requires : need.discounted-factor-requires
+discounted-factor-requires c κs =
     let T = c .args .self .now .tables in
     let b = c .args .terms .now .blend in
     let o = ordered (c .args .self .now) in
     let t = c .loop-year .year in
     let s = c .min-known .result in
     let within : s ≤ 120 = omega (arith, c .min-known .ensures, o .ends) in
-    let before = c .loop-year .inv .3 (t - 1) (omega (arith, c .if-year-known .left)) in
+    let before = c .loop-year .inv .3 (t - 1) (omega (arith, c .if-year-known .taken)) in
     let P : ℕ × ℕ → Type 0 = λ p. (p .0 ≤ unit) × (p .1 ≤ unit) in
     let small = subst P (sym before) (factor-unit b T o s within Low (t - 1) (omega arith), factor-unit b T o s within High (t - 1) (omega arith)) in
     (small .0, small .1, subst InRange (sym (c .growths-blended .ensures)) (growths-range b T o t (omega arith)))
@@ -81,15 +81,20 @@ loop-year-again c =
     let s = c .min-known .result in
     let t = c .loop-year .year in
     let i = c .loop-year .inv in
-    let entry-is : c .if-year-known .factors ≡ pair (λ σ. discount-factor terms T s σ t) =
+    let growths-are : c .if-year-known .blended ≡ pair (λ σ. discount-growth terms T σ t) =
     elim (c .if-year-known .came) [
-      | then-year-known w ↦ w .factors-is ∙ discount-known terms T s t (w .if-year-known .taken)
-      | else-year-known w ↦ w .factors-is ∙ w .discounted .ensures ∙ discounted-turn terms T s t (w .if-year-known .left) _ _ (i .3 (t - 1) (omega (arith, w .if-year-known .left))) (c .growths-blended .ensures)
+      | then-year-known w ↦ w .blended-is ∙ w .growths-blended .ensures
+      | else-year-known w ↦ w .blended-is ∙ growths-known (c .args .terms .now .blend) (c .in-Some .blend) (c .in-Some .is) T t (omega (arith, w .if-year-known .left, c .min-known .ensures))
+    ] in
+    let factors-are : c .if-year-known .factor ≡ pair (λ σ. discount-factor terms T s σ t) =
+    elim (c .if-year-known .came) [
+      | then-year-known w ↦ w .factor-is ∙ w .discounted-factor .ensures ∙ discounted-turn terms T s t (w .if-year-known .taken) _ _ (i .3 (t - 1) (omega (arith, w .if-year-known .taken))) (w .growths-blended .ensures)
+      | else-year-known w ↦ w .factor-is ∙ discount-known terms T s t (w .if-year-known .left)
     ] in (
       length-set (c .loop-year .growths) t _ ∙ i .0,
       length-set (c .loop-year .factors) t _ ∙ i .1,
-      written (λ t. pair (λ σ. discount-growth terms T σ t)) (c .loop-year .growths) t (c .growths-blended .result) (c .growths-blended .ensures) (omega (arith, i .0)) (i .2),
-      written (λ t. pair (λ σ. discount-factor terms T s σ t)) (c .loop-year .factors) t (c .if-year-known .factors) entry-is (omega (arith, i .1)) (i .3),
+      written (λ t. pair (λ σ. discount-growth terms T σ t)) (c .loop-year .growths) t (c .if-year-known .blended) growths-are (omega (arith, i .0)) (i .2),
+      written (λ t. pair (λ σ. discount-factor terms T s σ t)) (c .loop-year .factors) t (c .if-year-known .factor) factors-are (omega (arith, i .1)) (i .3),
     )
 
 pub returns : need.returns

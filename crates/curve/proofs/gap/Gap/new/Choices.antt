@@ -9,5 +9,6 @@ use Rattle.curve.proofs.gap.Gap.new.Given as given
 abbrev pub Inv-loop-year : given.InvT-loop-year
 Inv-loop-year g l =
     let pay = g .K·Instrument .means (l .instrument) .payment in
-    (l .low ≡ worth pay (factor-of (l .tables) Low) (l .year - 1)) × (l .high ≡ worth pay (factor-of (l .tables) High) (l .year - 1))
+    (l .year ≤ g .K·Instrument .means (l .instrument) .maturity)
+    × (l .low ≡ worth pay (factor-of (l .tables) Low) (l .year - 1)) × (l .high ≡ worth pay (factor-of (l .tables) High) (l .year - 1))
     × (l .low ≤ 2000000000000000 * (l .year - 1)) × (l .high ≤ 2000000000000000 * (l .year - 1))

@@ -1,0 +1,10 @@
+pub mod Answers
+pub mod Digits
+pub mod Frames
+pub mod Hex
+pub mod Inputs
+pub mod Letters
+pub mod Lines
+pub mod Promises
+pub mod Reads
+pub mod Sessions
