@@ -62,7 +62,8 @@ impl<'a, K: Instrument> Book<'a, K> {
     }
 }
 
-// Runs a list of calls from opening on, and gives the answer to each.
+// Runs a list of calls from opening on, and gives the answer to each. What the places hold in the end is left open here; `call` says it
+// after each call.
 pub fn run<K: Instrument>(
     heap: Global,
     terms: Terms,

@@ -41,7 +41,7 @@ fn pair(high: u8, low: u8) -> Option<u8>
     Some(16 * high + low)
 }
 
-// Writes the bytes of a line of digits and says how many they are; a line that is no frame may leave some written.
+// Writes the bytes of a line of digits and says how many they are. What stands after them, and all of it where the line is no frame, is left open.
 pub fn decode(line: &[u8], bytes: &mut [u8; 10]) -> Option<usize>
     ensures value { λ r. ⌜ mapped (λ n. take n (now (bytes .exit))) r ≡ decoded (now (line .entry)) ⌝ }
     ensures count { λ r. ⌜ Cases r (Unit {0}) (λ n. (1 ≤ n) × (n ≤ 10)) ⌝ }
