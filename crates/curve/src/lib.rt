@@ -1,4 +1,6 @@
 //! A discount curve as two figures for each year: stripped from quotations, blended towards the ultimate forward rate, and asked.
+#![tactic(auto)]
+
 pub mod blend;
 pub mod currency;
 pub mod discount;

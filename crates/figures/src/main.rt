@@ -1,4 +1,6 @@
 //! Answers stored inputs and holds each answer to the stored one, byte for byte.
+#![tactic(auto)]
+
 use frames::respond::respond;
 use std::{fs, io};
 

@@ -1,4 +1,6 @@
 //! Lines of hexadecimal digits: how an input is cut into lines, how a line is read as a frame, and how an answer is written.
+#![tactic(auto)]
+
 pub mod answer;
 mod digits;
 pub mod frame;

@@ -1,4 +1,6 @@
 //! Instruments that a discount curve is stripped from: what every kind owes, swaps and bonds, and the refusals of a book.
+#![tactic(auto)]
+
 pub mod bond;
 pub mod bonds;
 pub mod class;

@@ -1,5 +1,7 @@
 //! The reserve at year end of an occupational pension association, through a book: swap quotations are entered, cash flows are posted, the
 //! book is settled, and it is asked for its discount curve and the reserve. Each step prints what it does and finds.
+#![tactic(auto)]
+
 mod blending;
 mod bracket;
 mod figure;

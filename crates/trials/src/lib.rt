@@ -1,4 +1,6 @@
 //! Trials of the book: a third kind of instrument, made only for them, and tests.
+#![tactic(auto)]
+
 #[cfg(test)]
 mod figures;
 #[cfg(test)]

@@ -1,4 +1,6 @@
 //! Reads frames from standard input, a line of hexadecimal digits each, and writes a line of answer for each to standard output.
+#![tactic(auto)]
+
 use frames::respond::respond;
 use std::io;
 use std::io::{Read, Write};
