@@ -19,11 +19,11 @@ pub(crate) trait Falling {
 
 // The first growth of the range at which the figure is below the limit, or one past the range. Any guess will do; a near one is quick.
 fn first_below<F: Falling>(f: &F, side: Side, limit: u64, guess: u64) -> u64
-    requires { Falls (value f.now side) }
+    requires { Falls (F.value f.now side) }
     ensures lower_bound { least ≤ result }
     ensures upper_bound { result ≤ most + 1 }
-    ensures by_index { (g : ℕ) → least ≤ g → g < result → limit ≤ value f.now side g }
-    ensures by_index_2 { (g : ℕ) → result ≤ g → g ≤ most → value f.now side g < limit }
+    ensures by_index { (g : ℕ) → least ≤ g → g < result → limit ≤ F.value f.now side g }
+    ensures by_index_2 { (g : ℕ) → result ≤ g → g ≤ most → F.value f.now side g < limit }
 {
     let mut low = LEAST;
     let mut high = MOST + 1;
@@ -45,8 +45,8 @@ fn first_below<F: Falling>(f: &F, side: Side, limit: u64, guess: u64) -> u64
 // The greatest growth of the range at which the low figure reaches the limit, or the lower end; or the least at which the high figure is
 // below it, or the upper end.
 pub(crate) fn furthest<F: Falling>(f: &F, side: Side, limit: u64, guess: u64) -> u64
-    requires { Falls (value f.now side) }
-    ensures { result ≡ edge side (reaching side (value f.now side) limit) }
+    requires { Falls (F.value f.now side) }
+    ensures { result ≡ edge side (reaching side (F.value f.now side) limit) }
 {
     let first = first_below(f, side, limit, guess);
     match side {

@@ -26,7 +26,7 @@ loop-low-preserved g c =
         omega arith,
         omega arith,
         (λ h. omega (arith, w.max-at.ensures)),
-        (λ h. omega (arith, w.max-at.ensures, w.saturating-sub.ensures)),
+        (λ h. omega (arith, w.max-at.ensures, w.saturating_sub.ensures)),
         omega (arith, c.min-stride.ensures),
         (λ k from to. i.6 k from (omega arith)),
         (λ k from to. omega (arith, w.if-at-limit.false, c.at.ensures, falls c.loop-low.at k (omega arith) (omega arith))),

@@ -9,7 +9,7 @@ pub returns-in-Some : goal.returns-in-Some
 returns-in-Some g c =
     let item = c.in-Some.ensures.item in
     let some : 1 ≤ length c.args.rows.now = omega (arith, ltb-true _ _ (sym item.0)) in
-    c.maturity.ensures ∙ ap (λ x. x.maturity) (c.of-row.ensures ∙ ap g.K.Instrument.read item.1) ∙ last_at g.K.Instrument.read c.args.rows.now 0 c.in-Some.row.now some
+    c.maturity.ensures ∙ ap (λ x. x.maturity) (c.of_row.ensures ∙ ap g.K.Instrument.read item.1) ∙ last_at g.K.Instrument.read c.args.rows.now 0 c.in-Some.row.now some
 
 pub returns-in-None : goal.returns-in-None
 unfolding last_from

@@ -14,9 +14,9 @@ pub returns-then-last-needed : goal.returns-then-last-needed
 returns-then-last-needed g c =
     let terms = span c.args.terms.now in
     let xs = map g.K.Instrument.read c.args.rows.now in
-    let short : last_from 0 xs < needed terms = omega (arith, c.if-last-needed.true, c.last-maturity-last.ensures, c.needed.ensures.value) in
+    let short : last_from 0 xs < needed terms = omega (arith, c.if-last-needed.true, c.last_maturity-last.ensures, c.needed.ensures.value) in
     record {
-      curve = ap (λ t. Err (TooShort t)) c.last-maturity-last.ensures ∙ settled_short terms xs short;
+      curve = ap (λ t. Err (TooShort t)) c.last_maturity-last.ensures ∙ settled_short terms xs short;
       encloses = λ d a. ((λ e. omega (arith, e)), (λ e. omega (arith, e)));
     }
 
@@ -35,13 +35,13 @@ pub returns : goal.returns
 returns g c =
     let terms = span c.args.terms.now in
     let xs = map g.K.Instrument.read c.args.rows.now in
-    let long : needed terms ≤ last_from 0 xs = omega (arith, c.if-last-needed.false, c.last-maturity-last.ensures, c.needed.ensures.value) in
-    let market = c.in-ok-market.market in
+    let long : needed terms ≤ last_from 0 xs = omega (arith, c.if-last-needed.false, c.last_maturity-last.ensures, c.needed.ensures.value) in
+    let market = c.in_ok-market.market in
     let made = c.blended.result in
     let is : made.tables ≡ discount terms market.tables = c.blended.ensures in
     let ordered : Ordered made.tables = record { ends = made.ends; growing = made.growing; near = made.near; discounting = made.discounting } in
     record {
-      curve = ap Ok is ∙ ap (ok_map (discount terms)) c.in-ok-market.ensures.curve ∙ settled_long terms xs long;
+      curve = ap Ok is ∙ ap (ok_map (discount terms)) c.in_ok-market.ensures.curve ∙ settled_long terms xs long;
       encloses = λ d a. subst (λ T. Encloses T (exact_discount terms (exact_growth d))) (sym is)
-          (settled_encloses terms xs market.tables c.in-ok-market.ensures.curve (omega (arith, long, c.needed.ensures.value, c.needed.ensures.positive)) (subst Ordered is ordered) d a (c.in-ok-market.ensures.encloses d a));
+          (settled_encloses terms xs market.tables c.in_ok-market.ensures.curve (omega (arith, long, c.needed.ensures.value, c.needed.ensures.positive)) (subst Ordered is ordered) d a (c.in_ok-market.ensures.encloses d a));
     }

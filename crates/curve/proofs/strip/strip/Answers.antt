@@ -37,9 +37,9 @@ returns-in-err-extend g c =
 
 pub loop-row-preserved : goal.loop-row-preserved
 loop-row-preserved g c = (
-  turn g.K.Instrument.read c.loop-row.tables c.args.rows.now c.loop-row.row-index c.row-item.result (g.K.Instrument.means c.of-row.result) _ c.loop-row-test.true c.row-item.is c.of-row.ensures c.in-ok-extend.ensures.gap
+  turn g.K.Instrument.read c.loop-row.tables c.args.rows.now c.loop-row.row-index c.row-item.result (g.K.Instrument.means c.of_row.result) _ c.loop-row-test.true c.row-item.is c.of_row.ensures c.in_ok-extend.ensures.gap
       ∙ c.loop-row.invariant.0,
-  c.in-ok-extend.ensures.ordered refl,
+  c.in_ok-extend.ensures.ordered refl,
 )
 
 pub returns : goal.returns

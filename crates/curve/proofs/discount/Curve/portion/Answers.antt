@@ -14,5 +14,5 @@ returns c =
     let value : (c.divide.result, c.divide-2.result) ≡ pair (f c.args.amount) = rounded ∙ ap (λ a. pair (f a)) c.from-kronor.ensures in
     record {
       value = value;
-      small = λ σ. omega (arith, ap (side_of σ) value, pair_side (f c.args.amount) σ, portion_small k.tables (curve_ordered k) c.args.year c.args.amount c.requires.0 c.requires.1 σ);
+      small = λ σ. omega (arith, ap (side_of σ) value, pair_side (f c.args.amount) σ, portion_small k.tables (curve_ordered k) c.args.year c.args.amount c.requires.year_bound c.requires.amount_bound σ);
     }

@@ -30,6 +30,6 @@ returns c =
     let T = c.args.self.now.tables in
     let t = c.args.year in
     let o = curve_ordered c.args.self.now in
-    let r : Result (ℤ × ℤ) Refusal = Ok (to_z w64 (of_z w64 c.forward-of.result), to_z w64 (of_z w64 c.forward-of-2.result)) in
+    let r : Result (ℤ × ℤ) Refusal = Ok (to_z w64 (of_z w64 c.forward_of.result), to_z w64 (of_z w64 c.forward_of-2.result)) in
     let value : r ≡ asked_rate T t = search rules in
     record { value = value; ordered = follows r (asked_rate T t) value Rising (rate_ordered T o t); encloses = λ growth possible e. follows r (asked_rate T t) value (RateBetween growth t) (rate_between T t growth possible e) }

@@ -11,7 +11,7 @@ use Rattle.curve.proofs.Answered.{follows}
 use Rattle.curve.proofs.ReserveBounds.{reserve_ordered, reserve_between}
 use Rattle.curve.proofs.Shares.{curve_ordered, Summed, summed_more, summed_all}
 use Rattle.curve.proofs.discount.Curve.reserve.Goals as goal
-use Rattle.curve.proofs.discount.Curve.reserve.Goals.{in-Some, in-default}
+use Rattle.curve.proofs.discount.Curve.reserve.Goals.{in-Some, in_default}
 
 -- the answer is the one defined, so what holds of that holds of it
 record Sound (k : Curve) (xs : List (Option ℤ)) (r : Result (ℤ × ℤ) Refusal) : Type 0 where
@@ -45,10 +45,10 @@ loop-year-preserved c =
       | in-Some w ↦
           let z = w.in-Some.amount in
           let fits : SFits w32 z = search rules in
-          let more = w.with-flow-balance.ensures in
+          let more = w.with_flow-balance.ensures in
           subst (Summed T xs (i + 1)) (sym w.balance-is)
-          (summed_more T xs i b so (Some z) (omega arith) w.in-Some.is w.with-flow-balance.result (λ σ. more.0 σ ∙ ap (λ a. left_of b σ +ℤ share T i a σ) (to_z-of_z w32 z fits)) more.1)
-      | in-default w ↦
+          (summed_more T xs i b so (Some z) (omega arith) w.in-Some.is w.with_flow-balance.result (λ σ. more.result_value σ ∙ ap (λ a. left_of b σ +ℤ share T i a σ) (to_z-of_z w32 z fits)) more.bounded_2)
+      | in_default w ↦
           subst (Summed T xs (i + 1)) (sym w.balance-is)
           (summed_more T xs i b so None (omega arith) w.in-default.is b (λ σ. omega (arith, ints)) (λ σ. (omega (arith, (so.1 σ).0), omega (arith, (so.1 σ).1))))
     ]
@@ -58,5 +58,5 @@ left-requires c σ = (omega (arith, (c.loop-year.invariant.1 σ).0), omega (arit
 
 pub returns : goal.returns
 returns c =
-    let all = sound c.args.self.now c.args.flows.now (Ok c.left.result) (ap Ok c.left.ensures ∙ summed_all c.args.self.now.tables c.args.flows.now c.loop-year.year c.loop-year.balance c.loop-year.invariant (omega arith) c.in-ok-flows-within.ensures) in
+    let all = sound c.args.self.now c.args.flows.now (Ok c.left.result) (ap Ok c.left.ensures ∙ summed_all c.args.self.now.tables c.args.flows.now c.loop-year.year c.loop-year.balance c.loop-year.invariant (omega arith) c.in_ok-flows_within.ensures) in
     record { value = all.value; ordered = all.ordered; encloses = all.encloses }

@@ -46,13 +46,13 @@ pub returns-then-high-eq-LEAST : goal.returns-then-high-eq-LEAST
 returns-then-high-eq-LEAST g c =
     let x = c.args.self.now in
     let means = g.K.Instrument.means x.instrument in
-    below (gap_worth x.known x.start x.last means) means c.maturity-maturity.result c.maturity-maturity.ensures c.furthest-growths-low.result c.furthest-growths-low.ensures c.if-high-eq-LEAST.true
+    below (gap_worth x.known x.start x.last means) means c.maturity-maturity.result c.maturity-maturity.ensures c.furthest_growths-low.result c.furthest_growths-low.ensures c.if-high-eq-LEAST.true
 
 pub returns-then-low-eq-MOST : goal.returns-then-low-eq-MOST
 returns-then-low-eq-MOST g c =
     let x = c.args.self.now in
     let means = g.K.Instrument.means x.instrument in
-    above (gap_worth x.known x.start x.last means) means c.maturity-maturity.result c.maturity-maturity.ensures c.furthest-growths-low.result c.furthest-growths-low.ensures c.if-high-eq-LEAST.false c.if-low-eq-MOST.true
+    above (gap_worth x.known x.start x.last means) means c.maturity-maturity.result c.maturity-maturity.ensures c.furthest_growths-low.result c.furthest_growths-low.ensures c.if-high-eq-LEAST.false c.if-low-eq-MOST.true
 
 pub overflow-add-low : goal.overflow-add-low
 overflow-add-low g c =
@@ -64,10 +64,10 @@ pub returns-then-high-low : goal.returns-then-high-low
 returns-then-high-low g c =
     let x = c.args.self.now in
     let means = g.K.Instrument.means x.instrument in
-    wide (gap_worth x.known x.start x.last means) means c.maturity-maturity.result c.maturity-maturity.ensures c.furthest-growths-low.result c.furthest-growths-low.ensures c.if-high-eq-LEAST.false c.if-low-eq-MOST.false c.if-high-low.true
+    wide (gap_worth x.known x.start x.last means) means c.maturity-maturity.result c.maturity-maturity.ensures c.furthest_growths-low.result c.furthest_growths-low.ensures c.if-high-eq-LEAST.false c.if-low-eq-MOST.false c.if-high-low.true
 
 pub returns : goal.returns
 returns g c =
     let x = c.args.self.now in
     let means = g.K.Instrument.means x.instrument in
-    taken (gap_worth x.known x.start x.last means) means c.maturity-maturity.result c.maturity-maturity.ensures c.furthest-growths-low.result c.furthest-growths-low.ensures c.if-high-eq-LEAST.false c.if-low-eq-MOST.false c.if-high-low.false
+    taken (gap_worth x.known x.start x.last means) means c.maturity-maturity.result c.maturity-maturity.ensures c.furthest_growths-low.result c.furthest_growths-low.ensures c.if-high-eq-LEAST.false c.if-low-eq-MOST.false c.if-high-low.false

@@ -46,12 +46,12 @@ loop-year-preserved g c =
     let law = g.met.K.Instrument.lawful x.instrument in
     let e : year + 1 - 1 ≡ year = omega arith in
     let late : s < year = omega (arith, i.0) in
-    let here : c.discount-factor.result ≡ f year = c.discount-factor.ensures.0 ∙ ap (λ q. step σ q c.args.growth) i.2 ∙ sym (continued_turn σ start s (level c.args.growth) year late) in
+    let here : c.discount-factor.result ≡ f year = c.discount-factor.ensures.value ∙ ap (λ q. step σ q c.args.growth) i.2 ∙ sym (continued_turn σ start s (level c.args.growth) year late) in
     let paid : c.payment.result ≡ after s pay year = c.payment.ensures ∙ sym (after_late s pay year late) in
-    let more : c.payment.result * c.discount-factor.result ≤ 2000000 * unit = mul-le-mul {n₁ = c.payment.result} {m₁ = c.discount-factor.result} {n₂ = 2000000} {m₂ = unit} (omega (arith, law.payment_limit year, c.payment.ensures)) c.discount-factor.ensures.1 in
+    let more : c.payment.result * c.discount-factor.result ≤ 2000000 * unit = mul-le-mul {n₁ = c.payment.result} {m₁ = c.discount-factor.result} {n₂ = 2000000} {m₂ = unit} (omega (arith, law.payment_limit year, c.payment.ensures)) c.discount-factor.ensures.upper_bound in
     let product : c.payment.result * c.discount-factor.result ≡ after s pay year * f year = cc in (
       omega (arith, i.0),
-      c.discount-factor.ensures.1,
+      c.discount-factor.ensures.upper_bound,
       here ∙ ap f (sym e),
       omega (arith, i.3, product, ap (worth (after s pay) f) e, worth_turn (after s pay) f year (omega (arith, i.0))),
       omega (arith, more, i.4),

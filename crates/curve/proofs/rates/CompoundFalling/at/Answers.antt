@@ -13,6 +13,6 @@ pub loop-year-preserved : goal.loop-year-preserved
 loop-year-preserved c =
     let σ = c.args.side in
     let g = c.args.growth in (
-      c.discount-factor.ensures.0 ∙ ap (λ q. step σ q g) c.loop-year.invariant.0 ∙ sym (continued_next σ (level unit) 0 (level g) c.loop-year.-year (omega arith)),
-      c.discount-factor.ensures.1,
+      c.discount-factor.ensures.value ∙ ap (λ q. step σ q g) c.loop-year.invariant.0 ∙ sym (continued_next σ (level unit) 0 (level g) c.loop-year._year (omega arith)),
+      c.discount-factor.ensures.upper_bound,
     )

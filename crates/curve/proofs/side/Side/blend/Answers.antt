@@ -6,7 +6,7 @@ pub overflow-add-whole : goal.overflow-add-whole
 overflow-add-whole c = record { fits = omega (arith, mul-le-mul_left (c.args.share.1 - c.args.share.0) c.requires.2) }
 
 pub divide-requires : goal.divide-requires
-divide-requires c = (c.requires.0, omega (arith, mul-le-mul_left (c.args.share.1 - c.args.share.0) c.requires.2))
+divide-requires c = (record { le_n = c.requires.le_share; n_bound = omega (arith, mul-le-mul_left (c.args.share.1 - c.args.share.0) c.requires.growth_le_most) })
 
 pub returns : goal.returns
 unfolding blended_growth

@@ -5,4 +5,4 @@ use Rattle.curve.proofs.side.Side.discount.Goals as goal
 
 pub returns : goal.returns
 unfolding step
-returns c = (c.divide.ensures, omega (arith, step_sinks c.args.self c.args.factor c.args.growth c.requires.1, c.divide.ensures))
+returns c = (record { value = c.divide.ensures; upper_bound = omega (arith, step_sinks c.args.self c.args.factor c.args.growth c.requires.least_le_growth, c.divide.ensures) })

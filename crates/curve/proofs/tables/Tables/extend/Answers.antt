@@ -29,12 +29,12 @@ lengthen-requires g c =
     let law = g.met.K.Instrument.lawful c.args.instrument in
     let n = c.new-gap.ensures in
     let r = c.new-gap.result in
-    let a = accepted_alike T c.requires x law r.known r.start r.last (g.K.Instrument.means r.instrument) (ap g.K.Instrument.means n.same) n.year n.begun n.summed c.in-ok-growths.growths c.in-ok-growths.ensures in (
-      omega (arith, c.maturity-maturity.ensures, (g.met.K.Instrument.lawful r.instrument).ninety_years),
-      c.requires.ends,
-      growths_range T c.requires x law c.in-ok-growths.growths a,
-      (λ σ t h. factor_small T c.requires σ t (omega (arith, c.requires.ends))),
-    )
+    let a = accepted_alike T c.requires x law r.known r.start r.last (g.K.Instrument.means r.instrument) (ap g.K.Instrument.means n.same) n.year n.begun n.summed c.in_ok-growths.growths c.in_ok-growths.ensures in (record {
+      to_bound = omega (arith, c.maturity-maturity.ensures, (g.met.K.Instrument.lawful r.instrument).ninety_years);
+      from_bound = c.requires.ends;
+      in_range = growths_range T c.requires x law c.in_ok-growths.growths a;
+      t_bound = (λ σ t h. factor_small T c.requires σ t (omega (arith, c.requires.ends)));
+    })
 
 -- the factors at maturity before they are tightened
 steps_there : (T : Tables) (x : Meaning) (growths : ℕ × ℕ) (table : List (ℕ × ℕ)) (m : ℕ) → m ≡ x.maturity → ((t : ℕ) → t ≤ T.last → entry table t ≡ entry T.factors t)
@@ -49,19 +49,19 @@ tightened-requires g c =
     let law = g.met.K.Instrument.lawful c.args.instrument in
     let n = c.new-gap.ensures in
     let r = c.new-gap.result in
-    let growths = c.in-ok-growths.growths in
+    let growths = c.in_ok-growths.growths in
     let same : g.K.Instrument.means r.instrument ≡ x = ap g.K.Instrument.means n.same in
     let m_is : c.maturity-maturity.result ≡ x.maturity = c.maturity-maturity.ensures ∙ ap (λ y. y.maturity) same in
-    let a = accepted_alike T c.requires x law r.known r.start r.last (g.K.Instrument.means r.instrument) same n.year n.begun n.summed growths c.in-ok-growths.ensures in
+    let a = accepted_alike T c.requires x law r.known r.start r.last (g.K.Instrument.means r.instrument) same n.year n.begun n.summed growths c.in_ok-growths.ensures in
     let steps = entry c.lengthen.new.factors c.maturity-maturity.result in
-    let steps_are : steps ≡ pair (λ σ. stepped T growths σ x.maturity) = steps_there T x growths c.lengthen.new.factors c.maturity-maturity.result m_is c.lengthen.ensures.kept c.lengthen.ensures.steps in (
-      growths_range T c.requires x law growths a,
-      (
+    let steps_are : steps ≡ pair (λ σ. stepped T growths σ x.maturity) = steps_there T x growths c.lengthen.new.factors c.maturity-maturity.result m_is c.lengthen.ensures.kept c.lengthen.ensures.steps in (record {
+      in_range = growths_range T c.requires x law growths a;
+      steps_le_unit = (
         omega (arith, ap (λ p. p.0) steps_are, stepped_order T c.requires x law growths a x.maturity, stepped_small T c.requires x law growths a x.maturity),
         omega (arith, ap (λ p. p.1) steps_are, stepped_small T c.requires x law growths a x.maturity),
-      ),
-      leaves_alike T c.requires x law r.known r.start r.last (g.K.Instrument.means r.instrument) same n.year n.begun n.summed growths a steps steps_are,
-    )
+      );
+      leaves = leaves_alike T c.requires x law r.known r.start r.last (g.K.Instrument.means r.instrument) same n.year n.begun n.summed growths a steps steps_are;
+    })
 
 pub returns : goal.returns
 unfolding extended
@@ -72,10 +72,10 @@ returns g c =
     let n = c.new-gap.ensures in
     let r = c.new-gap.result in
     let m = c.maturity-maturity.result in
-    let growths = c.in-ok-growths.growths in
+    let growths = c.in_ok-growths.growths in
     let same : g.K.Instrument.means r.instrument ≡ x = ap g.K.Instrument.means n.same in
     let m_is : m ≡ x.maturity = c.maturity-maturity.ensures ∙ ap (λ y. y.maturity) same in
-    let a = accepted_alike T c.requires x law r.known r.start r.last (g.K.Instrument.means r.instrument) same n.year n.begun n.summed growths c.in-ok-growths.ensures in
+    let a = accepted_alike T c.requires x law r.known r.start r.last (g.K.Instrument.means r.instrument) same n.year n.begun n.summed growths c.in_ok-growths.ensures in
     let table = c.lengthen.new.factors in
     let steps_are : entry table m ≡ pair (λ σ. stepped T growths σ x.maturity) = steps_there T x growths table m m_is c.lengthen.ensures.kept c.lengthen.ensures.steps in
     let tight : c.tightened.result ≡ pair (tightened T x growths) =
@@ -87,6 +87,6 @@ returns g c =
     let all : ◌≡◌ {A = Tables} (record { last = m; growths = c.spread.new.table; factors = set table m c.tightened.result }) (extended T x growths) =
     λ i. record { last = m_is i; growths = growths_are i; factors = factors_are i } in
     record {
-      gap = ap Ok all ∙ extends_alike T c.requires x law r.known r.start r.last (g.K.Instrument.means r.instrument) same n.year n.begun n.summed growths c.in-ok-growths.ensures;
+      gap = ap Ok all ∙ extends_alike T c.requires x law r.known r.start r.last (g.K.Instrument.means r.instrument) same n.year n.begun n.summed growths c.in_ok-growths.ensures;
       ordered = λ e. subst Ordered (sym all) (extended_ordered T c.requires x law growths a);
     }
