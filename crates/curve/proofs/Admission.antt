@@ -1,19 +1,18 @@
 -- Every admitted curve lies between the two figures of a stripped curve, and none is admitted where stripping is refused because no growth of the range fits.
-use Rattle.std.proofs.Common.{◌≡◌, ℕ, zero, suc, ◌+◌, ◌-◌, ◌*◌, ◌<◌, ◌≤◌, min, max, Bool, true, false, cond, ◌&&◌, eqb, ltb, leb, ◌⊎◌, List, [], ◌∷◌, sym, refl, ap, ◌∙◌, subst, inl, inr, mul-le-mul_right, mul-le-mul, mul-le-mul_left, arith}
-use Rattle.std.proofs.lemmas.Bool.{cases_lt, cond_both, leb-true, leb-false, ltb-true, eqb-true, and_parts, and_cases, ltb-false}
+use Rattle.std.proofs.Common.{◌≡◌, ℕ, zero, suc, ◌+◌, ◌-◌, ◌*◌, ◌<◌, ◌≤◌, min, max, true, sym, refl, ap, subst, inl, inr, mul-le-mul_right, mul-le-mul, arith}
+use Rattle.std.proofs.lemmas.Bool.{cases_lt, leb-true, ltb-true}
 use Rattle.instruments.specs.Law.{Meaning, Lawful}
-use Rattle.curve.specs.Range.{unit, least, most, place, edge}
-use Rattle.curve.specs.Steps.{side_of, opposite, pair, quotient, reaches, reaching}
+use Rattle.curve.specs.Range.{unit, least, most, place}
+use Rattle.curve.specs.Steps.{side_of, opposite, quotient, reaches, reaching}
 use Rattle.curve.specs.Worths.{continued, level, worth}
-use Rattle.curve.specs.Market.{admitted, limit, entry, factor_of, growth_of, worth_at, found, stepped, tightened, inner, extended, extended_growths, extended_factors, Ordered}
+use Rattle.curve.specs.Market.{admitted, limit, factor_of, worth_at, found, stepped, tightened, inner}
 use Rattle.curve.specs.Exact.{Fraction, fraction, Between, ExactCurve, exact_growth, exact_factor, exact_worth, Priced}
 use Rattle.curve.specs.declared.side.Side.{Side}
 use Rattle.curve.specs.declared.side.Side.TheVariants.{Low, High}
 use Rattle.curve.specs.declared.tables.Tables.{Tables}
-use Rattle.curve.proofs.Outward.{Outside, outside_trans, outside_mul, quotient_outside}
+use Rattle.curve.proofs.Outward.{Outside, quotient_outside}
 use Rattle.curve.proofs.Edges.{edge_passes, edge_range}
 use Rattle.curve.proofs.Enclosure.{Bounds, outside_cancel, outside_either, continued_bounds, worth_bounds}
-use Rattle.curve.proofs.Gaps.{entry_by_year}
 
 -- positive bottoms
 pub growth_bottom : (c : ExactCurve) → 1 ≤ c.whole → (t : ℕ) → (1 ≤ (exact_growth c t).bottom) × (1 ≤ (exact_growth c t).top)

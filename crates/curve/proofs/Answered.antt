@@ -1,18 +1,17 @@
 -- What holds of the figures that a curve answers: low at most high, and every enclosed curve between.
-use Rattle.std.proofs.Common.{◌≡◌, ℕ, zero, ◌+◌, ◌*◌, ◌^◌, ◌<◌, ◌≤◌, Bool, true, false, ◌&&◌, leb, ◌≢◌, ◌⊎◌, ℤ, pos, ◌+ℤ◌, ◌-ℤ◌, ◌≤ℤ◌, IfOk, Ok, Err, Result, sym, refl, ap, ◌∙◌, subst, inl, inr, mul-le-mul_right, mul-le-mul_left, mul-add, arith}
+use Rattle.std.proofs.Common.{◌≡◌, ℕ, ◌+◌, ◌*◌, ◌^◌, ◌<◌, ◌≤◌, leb, pos, ◌+ℤ◌, ◌≤ℤ◌, IfOk, Ok, Err, Result, sym, subst, inl, inr, mul-le-mul_right, mul-le-mul_left, mul-add, arith}
 use native.Mathlib.Nat.{one-le-pow, pow-lt-pow_left}
 use Rattle.std.proofs.lemmas.Int.{ints}
 use Rattle.std.proofs.lemmas.Bool.{cases_lt, and_parts, leb-true, ltb-true, cond_both}
-use Rattle.instruments.specs.Limits.{within, if_kept}
+use Rattle.instruments.specs.Limits.{within}
 use Rattle.instruments.specs.declared.refusal.Refusal.{Refusal}
 use Rattle.instruments.specs.declared.refusal.Refusal.TheVariants.{OutsideHorizon}
-use Rattle.curve.specs.Range.{unit, least, most, edge}
+use Rattle.curve.specs.Range.{unit}
 use Rattle.curve.specs.Steps.{reaching}
 use Rattle.curve.specs.Market.{entry, growth_of, factor_of, Ordered}
 use Rattle.curve.specs.Questions.{asked, signed_pair, forward_of, asked_forward, asked_factor}
 use Rattle.curve.specs.Rates.{compounded, rate_limit, rate_growth, asked_rate}
 use Rattle.curve.specs.Exact.{Fraction, Between, exact_factor, Possible, Encloses, Rising, Narrow, one_plus, ForwardBetween, FactorBetween, RateBetween}
-use Rattle.curve.specs.declared.side.Side.{Side}
 use Rattle.curve.specs.declared.side.Side.TheVariants.{Low, High}
 use Rattle.curve.specs.declared.tables.Tables.{Tables}
 use Rattle.curve.proofs.Edges.{edge_passes, edge_range}

@@ -1,12 +1,11 @@
 -- Weighing with the ultimate growth keeps a figure on its side, and an exact growth in the range.
-use Rattle.std.proofs.Common.{◌≡◌, ℕ, zero, suc, ◌+◌, ◌-◌, ◌*◌, ◌<◌, ◌≤◌, min, cond, leb, ◌⊎◌, Some, None, Option, sym, refl, ap, ◌∙◌, inl, inr, mul-le-mul_right, mul-le-mul, mul-le-mul_left, arith}
-use Rattle.std.proofs.lemmas.Bool.{cases_lt, cond_both, cond-true, leb-true, leb-false, le-leb}
+use Rattle.std.proofs.Common.{◌≡◌, ℕ, zero, suc, ◌+◌, ◌-◌, ◌*◌, ◌≤◌, min, leb, Some, None, Option, refl, ap, ◌∙◌, inl, inr, mul-le-mul, arith}
+use Rattle.std.proofs.lemmas.Bool.{cases_lt, cond_both, cond-true, leb-true, le-leb}
 use Rattle.curve.specs.Range.{unit, least, most, place}
 use Rattle.curve.specs.Steps.{side_of, opposite, pair, quotient}
-use Rattle.curve.specs.Worths.{continued}
 use Rattle.curve.specs.Market.{entry, by_year, factor_of, growth_of, Ordered}
 use Rattle.curve.specs.Blending.{ultimate, weight, blended_growth, discount_growth, discount_factor, discount}
-use Rattle.curve.specs.Exact.{Fraction, fraction, Between, exact_factor, exact_blend, exact_discount, Possible, Encloses}
+use Rattle.curve.specs.Exact.{Fraction, Between, exact_factor, exact_blend, exact_discount, Possible, Encloses}
 use Rattle.curve.specs.declared.side.Side.{Side}
 use Rattle.curve.specs.declared.side.Side.TheVariants.{Low, High}
 use Rattle.curve.specs.declared.tables.Tables.{Tables}

@@ -1,7 +1,7 @@
 -- Laws of factors that go on from a known year, and of worths.
-use Rattle.std.proofs.Common.{◌≡◌, ℕ, zero, suc, ◌+◌, ◌-◌, ◌*◌, ◌<◌, ◌≤◌, true, false, cond, leb, ◌⊎◌, sym, refl, ap, ◌∙◌, inl, inr, mul-le-mul, add-one, arith}
+use Rattle.std.proofs.Common.{◌≡◌, ℕ, zero, suc, ◌+◌, ◌-◌, ◌*◌, ◌<◌, ◌≤◌, leb, sym, refl, ap, ◌∙◌, inl, inr, mul-le-mul, add-one, arith}
 use Rattle.std.proofs.lemmas.Bool.{cases_lt, cond-true, cond-false, le-leb, lt-leb}
-use Rattle.curve.specs.Range.{unit, least}
+use Rattle.curve.specs.Range.{least}
 use Rattle.curve.specs.Steps.{step}
 use Rattle.curve.specs.Worths.{continued, level, worth, after, worth_from}
 use Rattle.curve.specs.declared.side.Side.{Side}

@@ -1,10 +1,9 @@
 -- Enclosure: steps, worths, the growths of a gap and its factors lie outside those of any exact curve that is admitted. One argument for both sides.
-use Rattle.std.proofs.Common.{◌≡◌, ℕ, zero, suc, ◌+◌, ◌-◌, ◌*◌, ◌<◌, ◌≤◌, Bool, true, false, ◌⊎◌, sym, refl, ap, ◌∙◌, inl, inr, mul-le-mul_right, mul-le-mul, mul-le-mul_left, le_of_mul-le-mul_right, arith}
-use Rattle.std.proofs.lemmas.Bool.{cases_lt, leb-true, ltb-true}
-use Rattle.curve.specs.Range.{unit, least, most, place, edge}
-use Rattle.curve.specs.Steps.{opposite, quotient, step, reaches, reaching}
-use Rattle.curve.specs.Worths.{continued, level, worth}
-use Rattle.curve.specs.Market.{admitted, limit}
+use Rattle.std.proofs.Common.{◌≡◌, ℕ, zero, suc, ◌+◌, ◌*◌, ◌<◌, ◌≤◌, ◌⊎◌, refl, inl, inr, le_of_mul-le-mul_right, arith}
+use Rattle.std.proofs.lemmas.Bool.{cases_lt}
+use Rattle.curve.specs.Range.{unit}
+use Rattle.curve.specs.Steps.{opposite, quotient, step}
+use Rattle.curve.specs.Worths.{continued, worth}
 use Rattle.curve.specs.Exact.{Fraction, fraction, Between, exact_factor, exact_worth}
 use Rattle.curve.specs.declared.side.Side.{Side}
 use Rattle.curve.specs.declared.side.Side.TheVariants.{Low, High}

@@ -1,7 +1,7 @@
 -- The code's gap and tables against the definition of a curve with one gap more.
-use Rattle.std.proofs.Common.{◌≡◌, ℕ, ◌+◌, ◌-◌, ◌*◌, ◌<◌, ◌≤◌, Bool, true, false, cond, ◌&&◌, eqb, ltb, leb, ◌≢◌, ◌⊎◌, List, length, set, Ok, Err, Result, sym, refl, ap, ◌∙◌, subst, inl, inr, arith, length-set, get_or-set_other, get_or-set_same}
+use Rattle.std.proofs.Common.{◌≡◌, ℕ, ◌-◌, ◌<◌, ◌≤◌, true, false, ◌&&◌, eqb, ltb, leb, ◌≢◌, List, length, set, Ok, Err, sym, ap, ◌∙◌, subst, inl, inr, arith, length-set, get_or-set_other, get_or-set_same}
 use Rattle.std.proofs.lemmas.List.FromFn.{fill_by_all}
-use Rattle.std.proofs.lemmas.Bool.{cases_lt, cases_eq, cond_both, and_parts, and_cases, leb-true, ltb-true, ltb-false, leb-false, eqb-true, eqb-false}
+use Rattle.std.proofs.lemmas.Bool.{cases_lt, cond_both, and_parts, and_cases, leb-true, ltb-false, leb-false, eqb-true, eqb-false}
 use Rattle.instruments.specs.Law.{Meaning, Lawful, ok_map}
 use Rattle.instruments.specs.declared.refusal.Refusal.{Refusal}
 use Rattle.curve.specs.Steps.{side_of, opposite, pair}

@@ -1,19 +1,18 @@
 -- What holds of a gap whose two growths are answered: they lie in the range, and the factors that follow stay in order.
-use Rattle.std.proofs.Common.{◌≡◌, ℕ, ◌+◌, ◌-◌, ◌*◌, ◌<◌, ◌≤◌, min, max, Bool, true, false, cond, ◌&&◌, eqb, ltb, leb, ◌⊎◌, get_or, sym, refl, ap, ◌∙◌, inl, inr, mul_comm, le_of_mul-le-mul_right, arith}
+use Rattle.std.proofs.Common.{◌≡◌, ℕ, ◌+◌, ◌-◌, ◌*◌, ◌<◌, ◌≤◌, Bool, ◌&&◌, eqb, ltb, leb, ◌⊎◌, sym, ◌∙◌, inl, inr, le_of_mul-le-mul_right, arith}
 use mathlib.Core.Path.{fun_ext}
 use Rattle.std.proofs.lemmas.List.FromFn.{get_or-map-range_with_len}
-use Rattle.std.proofs.lemmas.Bool.{cases_lt, cases_eq, cond_both, leb-true, ltb-true, ltb-false, eqb-true, eqb-false, leb-false}
+use Rattle.std.proofs.lemmas.Bool.{cases_lt, cond_both, leb-true, ltb-true}
 use Rattle.instruments.specs.Law.{Meaning, Lawful}
-use Rattle.curve.specs.Range.{unit, least, most, edge}
+use Rattle.curve.specs.Range.{unit, least, most}
 use Rattle.curve.specs.Steps.{side_of, opposite, pair, quotient, reaching}
 use Rattle.curve.specs.Worths.{continued, level, worth, gap_worth}
-use Rattle.curve.specs.Market
-use Rattle.curve.specs.Market.{by_year, entry, factor_of, growth_of, admitted, limit, worth_at, found, found_growths, stepped, tightened, tightened_by, inner, rest_of, Leaves, extended, extended_growths, extended_factors, Ordered, InRange, Growing, Near, Discounting}
+use Rattle.curve.specs.Market.{by_year, entry, factor_of, admitted, limit, worth_at, stepped, tightened, extended, extended_growths, extended_factors, Ordered, InRange}
 use Rattle.curve.specs.declared.side.Side.{Side}
 use Rattle.curve.specs.declared.side.Side.TheVariants.{Low, High}
 use Rattle.curve.specs.declared.tables.Tables.{Tables}
-use Rattle.curve.proofs.Outward.{Outside, outside_trans, quotient_outside, quotient_rises, quotient_sides}
-use Rattle.curve.proofs.Continuation.{Under, under_self, continued_known, continued_under, continued_small, worth_rises, worth_same, worth_turn, worth_from_is}
+use Rattle.curve.proofs.Outward.{Outside, quotient_outside, quotient_rises, quotient_sides}
+use Rattle.curve.proofs.Continuation.{Under, continued_known, continued_under, continued_small, worth_rises, worth_same, worth_turn, worth_from_is}
 use Rattle.curve.proofs.Edges.{edge_passes, edge_range}
 use Rattle.curve.proofs.Verdict.{Accepted}
 

@@ -1,14 +1,14 @@
 -- The growth of a gap of one year, straight from the factor that the limit leaves for its payment.
-use Rattle.std.proofs.Common.{◌≡◌, ℕ, ◌+◌, ◌-◌, ◌*◌, ◌/◌, ◌<◌, ◌≤◌, min, max, ◌⊎◌, sym, refl, ap, ◌∙◌, inl, inr, mul-le-mul_right, mul-le-mul_left, div-mul-le_self, arith}
+use Rattle.std.proofs.Common.{◌≡◌, ℕ, ◌+◌, ◌-◌, ◌*◌, ◌/◌, ◌<◌, ◌≤◌, min, max, ap, ◌∙◌, inl, inr, mul-le-mul_right, mul-le-mul_left, div-mul-le_self, arith}
 use native.Mathlib.Nat.{lt-div-mul-add}
 use Rattle.std.proofs.lemmas.Bool.{cases_lt}
 use Rattle.curve.specs.Range.{unit, least, most, edge}
 use Rattle.curve.specs.Steps.{quotient, step, reaching}
-use Rattle.curve.specs.Worths.{continued, level, worth, after, worth_from}
+use Rattle.curve.specs.Worths.{continued, level, after, worth_from}
 use Rattle.curve.specs.declared.side.Side.{Side}
 use Rattle.curve.specs.declared.side.Side.TheVariants.{Low, High}
 use Rattle.curve.proofs.Continuation.{continued_known, continued_turn, worth_turn, worth_none, after_yet, after_late}
-use Rattle.curve.proofs.Edges.{ended, edge_ended}
+use Rattle.curve.proofs.Edges.{edge_ended}
 use Rattle.curve.proofs.Outward.{quotient_outside, quotient_inmost}
 
 -- the worth of such a gap

@@ -1,11 +1,11 @@
 -- The zero rates of a year enclose the rate of every exact curve that the factors enclose.
-use Rattle.std.proofs.Common.{◌≡◌, ℕ, zero, suc, ◌+◌, ◌-◌, ◌*◌, ◌^◌, ◌<◌, ◌≤◌, true, ltb, ◌⊎◌, pos, negsuc, sym, refl, ap, ◌∙◌, inl, inr, pow-suc, arith}
+use Rattle.std.proofs.Common.{◌≡◌, ℕ, zero, suc, ◌-◌, ◌*◌, ◌^◌, ◌≤◌, true, ltb, pos, negsuc, sym, refl, ap, ◌∙◌, inl, inr, pow-suc, arith}
 use native.Mathlib.Nat.{pow-zero}
 use Rattle.std.proofs.lemmas.Bool.{cond_both, leb-true, ltb-true, ltb-false}
-use Rattle.curve.specs.Range.{unit, least, most, place, edge}
+use Rattle.curve.specs.Range.{unit, least, most, place}
 use Rattle.curve.specs.Steps.{side_of, opposite, reaches, reaching}
-use Rattle.curve.specs.Worths.{continued, level}
-use Rattle.curve.specs.Market.{entry, factor_of, Ordered}
+use Rattle.curve.specs.Worths.{level}
+use Rattle.curve.specs.Market.{entry, factor_of}
 use Rattle.curve.specs.Questions.{forward_of}
 use Rattle.curve.specs.Rates.{compounded, rate_limit, rate_growth}
 use Rattle.curve.specs.Exact.{Fraction, fraction, Between, exact_factor, Possible, Encloses, one_plus}

@@ -1,5 +1,5 @@
 -- The reserve's two figures: low at most high, and the reserve of every enclosed curve between.
-use Rattle.std.proofs.Common.{◌≡◌, ℕ, suc, ◌+◌, ◌*◌, ◌<◌, ◌≤◌, Bool, true, false, cond, ◌&&◌, leb, ◌⊎◌, List, [], ◌∷◌, ℤ, pos, negsuc, ◌+ℤ◌, ◌-ℤ◌, neg_ℤ, ◌≤ℤ◌, IfOk, Some, None, Ok, Err, Option, Result, sym, refl, ap, ◌∙◌, subst, inl, inr, mul-le-mul_right, mul-le-mul_left, arith}
+use Rattle.std.proofs.Common.{◌≡◌, ℕ, ◌+◌, ◌*◌, ◌≤◌, Bool, true, false, cond, leb, List, [], ◌∷◌, ℤ, pos, negsuc, ◌-ℤ◌, ◌≤ℤ◌, IfOk, Some, None, Ok, Err, Option, Result, refl, ap, mul-le-mul_right, mul-le-mul_left, arith}
 use Rattle.std.proofs.lemmas.Int.{ints}
 use Rattle.std.proofs.lemmas.Bool.{and_parts, leb-true}
 use Rattle.instruments.specs.Law.{ok_map}
@@ -9,9 +9,9 @@ use Rattle.instruments.specs.declared.refusal.Refusal.TheVariants.{OutsideHorizo
 use Rattle.curve.specs.Range.{unit}
 use Rattle.curve.specs.Steps.{side_of, opposite, quotient}
 use Rattle.curve.specs.Market.{entry, factor_of, and_then, Ordered}
-use Rattle.curve.specs.Questions.{asked, signed_pair}
-use Rattle.curve.specs.Reserve.{portion, share, flow_share, reserve_from, flow_within, flows_within, asked_reserve, hundredth}
-use Rattle.curve.specs.Exact.{Fraction, fraction, Between, exact_factor, Encloses, Rising, gain, loss, part_of, exact_total, AtMost, AtLeast, ReserveBetween}
+use Rattle.curve.specs.Questions.{signed_pair}
+use Rattle.curve.specs.Reserve.{portion, flow_share, reserve_from, flows_within, asked_reserve, hundredth}
+use Rattle.curve.specs.Exact.{Fraction, Between, exact_factor, Encloses, Rising, gain, loss, part_of, exact_total, ReserveBetween}
 use Rattle.curve.specs.declared.side.Side.{Side}
 use Rattle.curve.specs.declared.side.Side.TheVariants.{Low, High}
 use Rattle.curve.specs.declared.tables.Tables.{Tables}

@@ -1,5 +1,5 @@
 -- From a market curve to the discount curve of the same quotations.
-use Rattle.std.proofs.Common.{◌≡◌, ℕ, suc, ◌-◌, ◌<◌, ◌≤◌, cond, ltb, List, [], ◌∷◌, map, length, get_or, Ok, Err, Option, Result, sym, refl, ap, ◌∙◌, subst, arith}
+use Rattle.std.proofs.Common.{◌≡◌, ℕ, suc, ◌-◌, ◌<◌, ◌≤◌, ltb, List, [], ◌∷◌, map, length, get_or, Ok, Err, Option, Result, sym, refl, ap, arith}
 use Rattle.std.proofs.lemmas.Bool.{cond-true, cond-false, lt-ltb, le-ltb}
 use Rattle.instruments.specs.Law.{Meaning, ok_map}
 use Rattle.instruments.specs.declared.refusal.Refusal.{Refusal}

@@ -1,12 +1,11 @@
 -- The theorem of stripping, gap by gap: every admitted curve is enclosed, and there is none where no growth of the range fits.
-use Rattle.std.proofs.Common.{◌≡◌, ℕ, ◌+◌, ◌<◌, ◌≤◌, Bool, true, false, cond, ◌&&◌, eqb, ltb, leb, ◌⊎◌, List, [], ◌∷◌, map, replicate, Ok, Err, Result, sym, refl, ap, ◌∙◌, subst, inl, inr, arith}
-use Rattle.std.proofs.lemmas.List.{get_or-replicate}
-use Rattle.std.proofs.lemmas.Bool.{cases_lt, cond_both, cond-true, cond-false, leb-true, leb-false, le-leb, lt-leb, ltb-true, ltb-false, eqb-true, and_parts, and_cases}
+use Rattle.std.proofs.Common.{◌≡◌, ℕ, ◌+◌, ◌<◌, ◌≤◌, ◌&&◌, eqb, ltb, leb, List, [], ◌∷◌, map, Ok, Err, Result, sym, refl, ◌∙◌, subst, inl, inr, arith}
+use Rattle.std.proofs.lemmas.Bool.{cases_lt, cond_both, cond-true, cond-false, leb-false, le-leb, lt-leb, ltb-false, eqb-true, and_cases}
 use Rattle.instruments.specs.Law.{Meaning, Lawful, ok_map}
 use Rattle.instruments.specs.declared.refusal.Refusal.{Refusal}
 use Rattle.curve.specs.Range.{unit, least, most}
 use Rattle.curve.specs.Steps.{side_of, pair}
-use Rattle.curve.specs.Market.{entry, factor_of, growth_of, worth_at, found, found_growths, stepped, tightened, extended, extended_growths, extended_factors, with_gap, and_then, strip_from, unstripped, Ordered}
+use Rattle.curve.specs.Market.{entry, factor_of, growth_of, worth_at, found, found_growths, stepped, tightened, extended, extended_factors, with_gap, and_then, strip_from, unstripped, Ordered}
 use Rattle.curve.specs.Exact.{fraction, Between, ExactCurve, exact_growth, exact_factor, Level, AllPriced, Admitted, Encloses, Tells}
 use Rattle.curve.specs.declared.side.Side.{Side}
 use Rattle.curve.specs.declared.side.Side.TheVariants.{Low, High}

@@ -1,5 +1,5 @@
 -- What holds of a growth weighed with the ultimate one.
-use Rattle.std.proofs.Common.{◌≡◌, ℕ, ◌+◌, ◌-◌, ◌*◌, ◌<◌, ◌≤◌, cond, leb, ◌⊎◌, Some, None, Option, ap, ◌∙◌, inl, inr, add-mul, mul-le-mul_left, mul-add, arith}
+use Rattle.std.proofs.Common.{◌≡◌, ℕ, ◌+◌, ◌-◌, ◌*◌, ◌<◌, ◌≤◌, leb, Some, None, Option, ap, ◌∙◌, add-mul, mul-le-mul_left, mul-add, arith}
 use native.Mathlib.Nat.{lt-div-mul-add}
 use Rattle.std.proofs.lemmas.Bool.{cond_both, cond-false, lt-leb, leb-true, leb-false}
 use Rattle.curve.specs.Blending.{weight, ultimate, blended_growth}
@@ -9,7 +9,7 @@ use Rattle.curve.specs.Steps.{quotient}
 use Rattle.curve.specs.declared.side.Side.{Side}
 use Rattle.curve.specs.declared.side.Side.TheVariants.{Low, High}
 use Rattle.curve.specs.declared.terms.Blend.{Blend}
-use Rattle.curve.proofs.Outward.{quotient_outside, quotient_inmost, quotient_rises, quotient_sides}
+use Rattle.curve.proofs.Outward.{quotient_inmost, quotient_rises, quotient_sides}
 
 -- a weight of k parts of n: n is not 0, k at most n, and n not large if k is small
 pub record Weight (w : ℕ × ℕ) : Type 0 where

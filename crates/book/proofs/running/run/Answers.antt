@@ -19,9 +19,9 @@ turn means calls i call R S items answer within is told-so replied =
     ∙ ap (λ l. items ++ l) ((λ j. replied j ∷ replies (told-so j) (map means (drop (i + 1) calls))) ∙ ap (λ k. replies R (means k ∷ map means (drop (i + 1) calls))) is
     ∙ sym (at_drop_more (λ l. replies R (map means l)) calls i call within))
 
-pub returns-in-err-push : goal.returns-in-err-push
-returns-in-err-push g c = record {
-  answers = IfOk-from_err c.from-residual.result _ c.from-residual.ensures.0;
+pub returns-in_err-push : goal.returns-in_err-push
+returns-in_err-push g c = record {
+  answers = IfOk-from_err c.from_residual.result _ c.from_residual.ensures.0;
   promise = promised c.args.terms.blend (min 60 (length c.args.rows.now)) _ (lawful_calls g.K.Instrument.means g.met.K.Instrument.lawful c.args.calls.now);
 }
 
@@ -31,7 +31,7 @@ loop-call-preserved g c =
     let means = call_means g.K.Instrument.means in
     let kept = c.call.ensures.kept c.loop-call.invariant.1 in
     let more = turn means c.args.calls.now c.loop-call.call-index c.call-item.result (register_of read c.loop-call.book) (register_of read c.call.new.self) c.loop-call.replies.items c.call.result c.loop-call-test.true c.call-item.is kept.register kept.replied in (
-      ap (λ l. l ++ replies (register_of read c.call.new.self) (map means (drop (c.loop-call.call-index + 1) c.args.calls.now))) c.in-ok-push.ensures.items ∙ more ∙ c.loop-call.invariant.0,
+      ap (λ l. l ++ replies (register_of read c.call.new.self) (map means (drop (c.loop-call.call-index + 1) c.args.calls.now))) c.in_ok-push.ensures.items ∙ more ∙ c.loop-call.invariant.0,
       kept.sound,
     )
 

@@ -1,5 +1,4 @@
 use Rattle.std.proofs.Common.{◌<◌, ◌≤◌, arith}
-use Rattle.curve.specs.Range.{least, most}
 use Rattle.curve.proofs.search.first_below.Goals as goal
 use Rattle.curve.proofs.search.first_below.Goals.{then-at-limit, else-at-limit}
 

@@ -20,15 +20,15 @@ returns-then-last-needed g c =
       encloses = λ d a. ((λ e. omega (arith, e)), (λ e. omega (arith, e)));
     }
 
-pub returns-in-err-market : goal.returns-in-err-market
-returns-in-err-market g c =
-    let p = err_from_is_err_and c.from-residual.result c.from-residual.ensures.1 in
+pub returns-in_err-market : goal.returns-in_err-market
+returns-in_err-market g c =
+    let p = err_from_is_err_and c.from_residual.result c.from_residual.ensures.1 in
     let terms = span c.args.terms.now in
     let xs = map g.K.Instrument.read c.args.rows.now in
-    let long : needed terms ≤ last_from 0 xs = omega (arith, c.if-last-needed.false, c.last-maturity-last.ensures, c.needed.ensures.value) in
+    let long : needed terms ≤ last_from 0 xs = omega (arith, c.if-last-needed.false, c.last_maturity-last.ensures, c.needed.ensures.value) in
     rw (p.1, p.2) (record {
-      curve = ap (ok_map (discount terms)) c.in-err-market.ensures.curve ∙ settled_long terms xs long;
-      encloses = λ d a. c.in-err-market.ensures.encloses d a;
+      curve = ap (ok_map (discount terms)) c.in_err-market.ensures.curve ∙ settled_long terms xs long;
+      encloses = λ d a. c.in_err-market.ensures.encloses d a;
     })
 
 pub returns : goal.returns

@@ -1,4 +1,4 @@
-use Rattle.std.proofs.Common.{◌≡◌, ℕ, ◌+◌, ◌<◌, List, ◌∷◌, map, length, get_or, drop, Ok, Err, Result, sym, refl, ap, ◌∙◌, subst}
+use Rattle.std.proofs.Common.{◌≡◌, ℕ, ◌+◌, ◌<◌, List, map, length, get_or, drop, Ok, Err, Result, sym, refl, ap, ◌∙◌, subst}
 use Rattle.std.proofs.lemmas.List.{at_drop_more, at_drop_all}
 use Rattle.std.proofs.lemmas.Result.{err_from_is_err_and}
 use Rattle.instruments.specs.Law.{Meaning, Lawful}
@@ -27,11 +27,11 @@ record Promised {Row : Type 0} (read : Row → Meaning) (rows : List Row) (v : R
 promised : {Row : Type 0} (read : Row → Meaning) (lawful : (r : Row) → Lawful (read r)) (rows : List Row) (v : Result Tables Refusal) → v ≡ stripped (map read rows) → Promised read rows v
 promised read lawful rows v e = record { curve = e; encloses = λ c a. subst (Tells (exact_growth c)) (sym e) (stripped_tells (map read rows) (all_lawful read lawful rows) start_ordered c a) }
 
-pub returns-in-err-extend : goal.returns-in-err-extend
-returns-in-err-extend g c =
-    let p = err_from_is_err_and c.from-residual.result c.from-residual.ensures.1 in
-    let all = promised g.K.Instrument.read g.met.K.Instrument.rows c.args.rows.now (Err c.in-err-extend.field-0.0)
-    (turn g.K.Instrument.read c.loop-row.tables c.args.rows.now c.loop-row.row-index c.row-item.result (g.K.Instrument.means c.of-row.result) _ c.loop-row-test.true c.row-item.is c.of-row.ensures c.in-err-extend.ensures.gap
+pub returns-in_err-extend : goal.returns-in_err-extend
+returns-in_err-extend g c =
+    let p = err_from_is_err_and c.from_residual.result c.from_residual.ensures.1 in
+    let all = promised g.K.Instrument.read g.met.K.Instrument.rows c.args.rows.now (Err c.in_err-extend.field-0.0)
+    (turn g.K.Instrument.read c.loop-row.tables c.args.rows.now c.loop-row.row-index c.row-item.result (g.K.Instrument.means c.of_row.result) _ c.loop-row-test.true c.row-item.is c.of_row.ensures c.in_err-extend.ensures.gap
     ∙ c.loop-row.invariant.0) in
     rw (p.1, p.2) (record { curve = all.curve; encloses = all.encloses })
 

@@ -2,17 +2,17 @@ use Rattle.std.proofs.Common.{◌≡◌, ℕ, ◌*◌, ◌/◌, length, take, So
 use Rattle.frames.proofs.Decoded.{decoded_more, decoded_none, decoded_all, wrong_count}
 use Rattle.frames.proofs.hex.decode.Goals as goal
 
-pub returns-in-err-bytes : goal.returns-in-err-bytes
-returns-in-err-bytes c =
-    rw c.from-residual.ensures
-    (record { value = decoded_none c.args.line.now c.loop-i.i (omega arith) c.in-err-bytes.ensures c.loop-i.invariant.0; count = tt })
+pub returns-in_err-bytes : goal.returns-in_err-bytes
+returns-in_err-bytes c =
+    rw c.from_residual.ensures
+    (record { value = decoded_none c.args.line.now c.loop-i.i (omega arith) c.in_err-bytes.ensures c.loop-i.invariant.0; count = tt })
 
 pub loop-i-preserved : goal.loop-i-preserved
 loop-i-preserved c =
     let i = c.loop-i.i in
     let bytes = c.loop-i.bytes in
-    let byte = c.in-ok-bytes.field-0 in
-    let more = decoded_more c.args.line.now bytes i byte (omega arith) (omega arith) c.in-ok-bytes.ensures c.loop-i.invariant.0 c.loop-i.invariant.1 in
+    let byte = c.in_ok-bytes.field-0 in
+    let more = decoded_more c.args.line.now bytes i byte (omega arith) (omega arith) c.in_ok-bytes.ensures c.loop-i.invariant.0 c.loop-i.invariant.1 in
     (more.0, more.1, length-set bytes i byte ∙ c.loop-i.invariant.2)
 
 pub returns : goal.returns

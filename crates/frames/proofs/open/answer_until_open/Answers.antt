@@ -22,7 +22,7 @@ returns-in-Ok c =
     let rest = lines (drop (at + next) input) in
     let o = c.in-Ok.opening in (
       omega (arith, first.forward.1, c.loop-line.invariant.0, ap length (take_rest input at), length-drop at input),
-      ap (λ l. l ++ open_answers (kind_for (named_code o.kind) o.class) (opened (span o.terms) 60) rest) c.in-ok-write.ensures
+      ap (λ l. l ++ open_answers (kind_for (named_code o.kind) o.class) (opened (span o.terms) 60) rest) c.in_ok-write.ensures
           ∙ opened_turn (named_code o.kind) o.class (span o.terms) line rest items c.accepted.result c.in-Ok.ensures c.accepted.ensures
           ∙ ap (λ l. items ++ closed_answers l) (sym (lines_turn input line at next first.steps)) ∙ c.loop-line.invariant.1,
       λ p. c.loop-line.invariant.2 (subst ClosedPromise (sym (lines_turn input line at next first.steps)) (opened_promise (named_code o.kind) o.class (span o.terms) line rest c.in-Ok.ensures p)),
@@ -38,7 +38,7 @@ loop-line-preserved c =
     let items = vec_items c.loop-line.out in
     let rest = lines (drop (at + next) input) in (
       omega (arith, first.forward.1, c.loop-line.invariant.0, ap length (take_rest input at), length-drop at input),
-      ap (λ l. l ++ closed_answers rest) c.in-ok-write-2.ensures
+      ap (λ l. l ++ closed_answers rest) c.in_ok-write-2.ensures
           ∙ refused_turn line rest items c.in-Err.refused c.in-Err.ensures
           ∙ ap (λ l. items ++ closed_answers l) (sym (lines_turn input line at next first.steps)) ∙ c.loop-line.invariant.1,
       λ p. c.loop-line.invariant.2 (subst ClosedPromise (sym (lines_turn input line at next first.steps)) (refused_promise c.in-Err.refused line rest c.in-Err.ensures p)),
@@ -49,5 +49,5 @@ unfolding closed_answers ClosedPromise
 returns c =
     let input = c.args.input.now in
     let at = c.loop-line.at in
-    let none : lines (drop at input) ≡ [] = sym (ap lines (take_rest input at)) ∙ c.in-default.ensures.steps in
+    let none : lines (drop at input) ≡ [] = sym (ap lines (take_rest input at)) ∙ c.in_default.ensures.steps in
     (c.loop-line.invariant.0, ap (λ l. vec_items c.loop-line.out ++ closed_answers l) (sym none) ∙ c.loop-line.invariant.1, λ _. c.loop-line.invariant.2 (subst ClosedPromise (sym none) tt))

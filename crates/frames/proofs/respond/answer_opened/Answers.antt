@@ -11,10 +11,10 @@ pub returns-in-Swap : goal.returns-in-Swap
 returns-in-Swap c =
     let o = c.args.opening in
     let owed : Named → Type 0 = λ kind. Promise (span o.terms) 60 (open_calls (kind_for (named_code kind) o.class) (lines c.args.input.now)) in
-    record { answers = search rules; promise = subst owed (sym c.in-Swap.is) (c.answer-lines.ensures.promise o.terms) }
+    record { answers = search rules; promise = subst owed (sym c.in-Swap.is) (c.answer_lines.ensures.promise o.terms) }
 
 pub returns-in-Bond : goal.returns-in-Bond
 returns-in-Bond c =
     let o = c.args.opening in
     let owed : Named → Type 0 = λ kind. Promise (span o.terms) 60 (open_calls (kind_for (named_code kind) o.class) (lines c.args.input.now)) in
-    record { answers = search rules; promise = subst owed (sym c.in-Bond.is) (c.answer-lines-in-Bond.ensures.promise o.terms) }
+    record { answers = search rules; promise = subst owed (sym c.in-Bond.is) (c.answer_lines-in-Bond.ensures.promise o.terms) }

@@ -17,13 +17,13 @@ loop-line-preserved g c =
     let next = c.in-Some.next in
     let line = c.in-Some.line.now in
     let first = c.in-Some.ensures in
-    let done = c.answer-on.ensures c.loop-line.invariant.2 in
+    let done = c.answer_on.ensures c.loop-line.invariant.2 in
     let left = lines_turn input line at next first.steps in
     let R = register_of read c.loop-line.book in
-    let S = register_of read c.answer-on.new.book in (
+    let S = register_of read c.answer_on.new.book in (
       omega (arith, first.forward.1, c.loop-line.invariant.0, ap length (take_rest input at), length-drop at input),
-      ap (λ l. l ++ open_answers k S (lines (drop (at + next) input))) c.in-ok-write.ensures
-          ∙ served_turn k R S line (lines (drop (at + next) input)) (vec_items c.loop-line.out) c.answer-on.result done.register done.answer_is
+      ap (λ l. l ++ open_answers k S (lines (drop (at + next) input))) c.in_ok-write.ensures
+          ∙ served_turn k R S line (lines (drop (at + next) input)) (vec_items c.loop-line.out) c.answer_on.result done.register done.answer_is
           ∙ ap (λ l. vec_items c.loop-line.out ++ open_answers k R l) (sym left) ∙ c.loop-line.invariant.1,
       done.sound,
     )
@@ -35,14 +35,14 @@ returns g c =
     let k = kind_of g.K.Instrument.framed read g.K.Instrument.making c.args.class in
     let input = c.args.input.now in
     let at = c.loop-line.at in
-    let none : lines (drop at input) ≡ [] = sym (ap lines (take_rest input at)) ∙ c.in-default.ensures.steps in
+    let none : lines (drop at input) ≡ [] = sym (ap lines (take_rest input at)) ∙ c.in_default.ensures.steps in
     record {
       answers = sym (append-nil (vec_items c.loop-line.out)) ∙ ap (λ l. vec_items c.loop-line.out ++ open_answers k (register_of read c.loop-line.book) l) (sym none) ∙ c.loop-line.invariant.1;
       promise = λ terms. lines_promised g.K.Instrument.framed read g.K.Instrument.making c.args.class g.met.K.Instrument.rows terms (lines input);
     }
 
-pub returns-in-err-write : goal.returns-in-err-write
-returns-in-err-write g c = record {
+pub returns-in_err-write : goal.returns-in_err-write
+returns-in_err-write g c = record {
   answers = search rules;
   promise = λ terms. lines_promised g.K.Instrument.framed g.K.Instrument.read g.K.Instrument.making c.args.class g.met.K.Instrument.rows terms (lines c.args.input.now);
 }

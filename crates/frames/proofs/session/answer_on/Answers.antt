@@ -5,30 +5,30 @@ use Rattle.frames.specs.Sessions.{frame_call, reply_answer}
 use Rattle.frames.proofs.Calls.{line_called}
 use Rattle.frames.proofs.session.answer_on.Goals as goal
 
-pub returns-in-Ok-call-of : goal.returns-in-Ok-call-of
-returns-in-Ok-call-of g c s =
+pub returns-in-Ok-call_of : goal.returns-in-Ok-call_of
+returns-in-Ok-call_of g c s =
     let k = kind_of g.K.Instrument.framed g.K.Instrument.read g.K.Instrument.making c.args.class in
     let R = register_of g.K.Instrument.read c.args.book.now in
     let l = c.in-Ok.read.0 in
     let n = c.in-Ok.read.1 in
-    let bytes = c.read-line.new.bytes in
+    let bytes = c.read_line.new.bytes in
     let whole : n - 0 ≡ n = omega arith in
     let kept = c.call.ensures.kept s in
-    let made = call_means g.K.Instrument.means c.in-Ok-call-of.call in
-    let e = line_called k R c.args.line.now (take n bytes) l (Ok made) c.in-Ok.ensures.read (c.in-Ok-call-of.ensures ∙ ap (λ j. frame_call k l (take j bytes)) whole) in
+    let made = call_means g.K.Instrument.means c.in-Ok-call_of.call in
+    let e = line_called k R c.args.line.now (take n bytes) l (Ok made) c.in-Ok.ensures.read (c.in-Ok-call_of.ensures ∙ ap (λ j. frame_call k l (take j bytes)) whole) in
     record {
       register = kept.register ∙ ap (λ p. p.0) e;
       answer_is = c.answer.ensures ∙ ap (reply_answer l) kept.replied ∙ ap (λ p. p.1) e;
       sound = kept.sound;
     }
 
-pub returns-in-Err-call-of : goal.returns-in-Err-call-of
-returns-in-Err-call-of g c s =
+pub returns-in-Err-call_of : goal.returns-in-Err-call_of
+returns-in-Err-call_of g c s =
     let k = kind_of g.K.Instrument.framed g.K.Instrument.read g.K.Instrument.making c.args.class in
     let R = register_of g.K.Instrument.read c.args.book.now in
     let l = c.in-Ok.read.0 in
     let n = c.in-Ok.read.1 in
-    let bytes = c.read-line.new.bytes in
+    let bytes = c.read_line.new.bytes in
     let whole : n - 0 ≡ n = omega arith in
-    let e = line_called k R c.args.line.now (take n bytes) l (Err c.in-Err-call-of.refusal) c.in-Ok.ensures.read (c.in-Err-call-of.ensures ∙ ap (λ j. frame_call k l (take j bytes)) whole) in
+    let e = line_called k R c.args.line.now (take n bytes) l (Err c.in-Err-call_of.refusal) c.in-Ok.ensures.read (c.in-Err-call_of.ensures ∙ ap (λ j. frame_call k l (take j bytes)) whole) in
     record { register = ap (λ p. p.0) e; answer_is = c.refused.ensures ∙ ap (λ p. p.1) e; sound = s }

@@ -42,11 +42,11 @@ returns g c =
     let rows = rows_of b in
     let len = b.places.len in
     let at = c.find-at.result.0 in
-    let row = c.to-row.result in
+    let row = c.to_row.result in
     let near : after_convergence (span b.terms) x.maturity ≡ false = ap (after_convergence (span b.terms)) (sym c.maturity-maturity.ensures) ∙ sym c.converged.ensures ∙ c.if-converged.false in
     let free : is_held x.maturity (quotations_of read b) ≡ false = ap (λ m. is_held m (quotations_of read b)) (sym c.maturity-maturity.ensures) ∙ sym c.find-at.ensures.held ∙ c.if-held.false in
     let there : at ≡ rank x.maturity (quotations_of read b) = c.find-at.ensures.place ∙ ap (λ m. rank m (quotations_of read b)) c.maturity-maturity.ensures in
-    let back : read row ≡ x = ap read c.to-row.ensures ∙ g.met.K.Instrument.back c.args.quotation in
+    let back : read row ≡ x = ap read c.to_row.ensures ∙ g.met.K.Instrument.back c.args.quotation in
     let room : length (take len rows) < length rows = omega (arith, c.if-used-usable.false, c.usable.ensures, c.used.ensures.value) in
     let done = enters R x near free (omega (arith, c.if-used-usable.false, c.usable.ensures, c.used.ensures.value, used_is read rows len)) in
     let long : length c.enter.new.self.rows.now ≡ length rows = ap length c.enter.ensures.rows ∙ entered_long read rows len x at there row back room in
@@ -55,6 +55,6 @@ returns g c =
     record {
       register = (λ i. record { span = span b.terms; usable = min 60 (long i); quotations = quoted i; flows = b.flows.amounts; is_settled = false }) ∙ sym (ap (register_after R) done);
       answer = sym (ap answered done);
-      places = c.enter.ensures.rows ∙ (λ i. entered rows (used_is read rows len i) (there i) (c.to-row.ensures i));
+      places = c.enter.ensures.rows ∙ (λ i. entered rows (used_is read rows len i) (there i) (c.to_row.ensures i));
       sound = λ s. tt;
     }

@@ -7,10 +7,10 @@ use Rattle.book.specs.Register.{register_after, answered}
 use Rattle.book.proofs.Outcomes.{posts_refused, posts_held, posts}
 use Rattle.book.proofs.volume.Book.post.Goals as goal
 
-pub returns-in-err-flow : goal.returns-in-err-flow
-returns-in-err-flow g c =
-    let p = err_from_is_err_and c.from-residual.result c.from-residual.ensures.1 in
+pub returns-in_err-flow : goal.returns-in_err-flow
+returns-in_err-flow g c =
+    let p = err_from_is_err_and c.from_residual.result c.from_residual.ensures.1 in
     let R = register_of g.K.Instrument.read c.args.self.now in
     let fits : SFits w32 c.args.amount = c.ranges.amount in
-    let e = posts_refused R c.args.year c.args.amount c.in-err-flow.field-0.0 (c.in-err-flow.ensures ∙ ap (flow_making c.args.year) (to_z-of_z w32 c.args.amount fits)) in
+    let e = posts_refused R c.args.year c.args.amount c.in_err-flow.field-0.0 (c.in_err-flow.ensures ∙ ap (flow_making c.args.year) (to_z-of_z w32 c.args.amount fits)) in
     rw (p.1, p.2) (record { register = ap (register_after R) e; answer = ap answered e; places = refl; sound = λ s. s })

@@ -26,9 +26,9 @@ Factors factors = (factors.0 ≤ factors.1) × (factors.1 ≤ unit)
 written : (f : ℕ → ℕ × ℕ) (table : List (ℕ × ℕ)) (i : ℕ) (v : ℕ × ℕ) → v ≡ f i → i < length table → ((t : ℕ) → t < i → entry table t ≡ f t) → (t : ℕ) → t < i + 1 → entry (set table i v) t ≡ f t
 written f table i v e within below t h = ap (λ v. entry (set table i v) t) e ∙ fill_by_more f table i (0, 0) within below t h
 
-pub returns-in-default : goal.returns-in-default
+pub returns-in_default : goal.returns-in_default
 unfolding discount
-returns-in-default c = cc
+returns-in_default c = cc
 
 pub loop-year-init : goal.loop-year-init
 loop-year-init c =
@@ -50,8 +50,8 @@ discounted-factor-requires c =
     let small = subst P (sym before) (factor_unit b T o s within Low (t - 1) (omega arith), factor_unit b T o s within High (t - 1) (omega arith)) in
     (record { factors_le_unit = small.0; factors_le_unit_2 = small.1; in_range = subst InRange (sym c.growths-blended.ensures) (growths_range b T o t (omega arith)) })
 
-pub invariant-of-result : goal.invariant-of-result
-invariant-of-result c =
+pub invariant_of-result : goal.invariant_of-result
+invariant_of-result c =
     let T = c.args.self.now.tables in
     let b = c.args.terms.now.blend in
     let o = ordered c.args.self.now in
@@ -59,16 +59,13 @@ invariant-of-result c =
     let within : s ≤ 120 = omega (arith, c.min-known.ensures, o.ends) in
     let left = c.loop-year-test.false in
     let growths = λ (t : ℕ) (h : t ≤ 120). sym (c.loop-year.invariant.2 t (omega arith)) in
-    let factors = λ (t : ℕ) (h : t ≤ 120). sym (c.loop-year.invariant.3 t (omega arith)) in (
-      omega arith,
-      (
-        (λ t h. subst InRange (growths t h) (growths_range b T o t h)),
-        (
-          (λ t h. subst Close (growths t h) (growths_near b T o t h)),
-          ((λ t h. subst Factors (factors t h) (factors_ordered b T o s within t h)), tt),
-        ),
-      ),
-    )
+    let factors = λ (t : ℕ) (h : t ≤ 120). sym (c.loop-year.invariant.3 t (omega arith)) in
+    record {
+      ends = omega arith;
+      growing = λ t h. subst InRange (growths t h) (growths_range b T o t h);
+      near = λ t h. subst Close (growths t h) (growths_near b T o t h);
+      discounting = λ t h. subst Factors (factors t h) (factors_ordered b T o s within t h);
+    }
 
 pub loop-year-preserved : goal.loop-year-preserved
 loop-year-preserved c =

@@ -8,14 +8,14 @@ use Rattle.curve.proofs.Answered.{follows, factor_ordered, factor_between}
 use Rattle.curve.proofs.Shares.{curve_ordered}
 use Rattle.curve.proofs.discount.Curve.factor.Goals as goal
 
-pub overflow-cast-result : goal.overflow-cast-result
-overflow-cast-result c =
+pub overflow_cast-result : goal.overflow_cast-result
+overflow_cast-result c =
     let h : c.args.year ≤ 120 = search rules in
     let d = c.args.self.now.discounting c.args.year h in
     search rules
 
-pub overflow-cast-result-2 : goal.overflow-cast-result-2
-overflow-cast-result-2 c =
+pub overflow_cast-result-2 : goal.overflow_cast-result-2
+overflow_cast-result-2 c =
     let h : c.args.year ≤ 120 = search rules in
     let d = c.args.self.now.discounting c.args.year h in
     search rules

@@ -6,13 +6,13 @@ use Rattle.curve.proofs.Answered.{follows, forward_ordered, forward_between}
 use Rattle.curve.proofs.Shares.{curve_ordered}
 use Rattle.curve.proofs.discount.Curve.forward.Goals as goal
 
-pub forward-of-requires : goal.forward-of-requires
-forward-of-requires c =
+pub forward_of-requires : goal.forward_of-requires
+forward_of-requires c =
     let h : c.args.year ≤ 120 = search rules in
     omega (arith, c.args.self.now.growing c.args.year h)
 
-pub forward-of-requires-2 : goal.forward-of-requires-2
-forward-of-requires-2 c =
+pub forward_of-requires-2 : goal.forward_of-requires-2
+forward_of-requires-2 c =
     let h : c.args.year ≤ 120 = search rules in
     omega (arith, c.args.self.now.growing c.args.year h)
 

@@ -1,4 +1,4 @@
-use Rattle.std.proofs.Common.{◌≡◌, ℕ, ◌≤◌, ap, ◌∙◌, arith}
+use Rattle.std.proofs.Common.{◌≡◌, ℕ, ap, ◌∙◌, arith}
 use Rattle.curve.specs.Steps.{pair, side_of}
 use Rattle.curve.specs.Reserve.{portion}
 use Rattle.curve.specs.declared.side.Side.{Side}

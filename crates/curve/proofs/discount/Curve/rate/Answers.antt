@@ -11,19 +11,19 @@ use Rattle.curve.proofs.discount.Curve.rate.Goals as goal
 pub furthest-lowest-requires : goal.furthest-lowest-requires
 furthest-lowest-requires c = compounded_falls c.args.year Low
 
-pub overflow-add-low : goal.overflow-add-low
-overflow-add-low c =
+pub overflow_add-low : goal.overflow_add-low
+overflow_add-low c =
     let h : c.args.year ≤ 120 = search rules in
     record { fits = omega (arith, c.args.self.now.discounting c.args.year h) }
 
 pub furthest-highest-requires : goal.furthest-highest-requires
 furthest-highest-requires c = compounded_falls c.args.year High
 
-pub forward-of-requires : goal.forward-of-requires
-forward-of-requires c = omega (arith, c.furthest-lowest.ensures, rate_growth_most c.args.self.now.tables c.args.year Low)
+pub forward_of-requires : goal.forward_of-requires
+forward_of-requires c = omega (arith, c.furthest-lowest.ensures, rate_growth_most c.args.self.now.tables c.args.year Low)
 
-pub forward-of-requires-2 : goal.forward-of-requires-2
-forward-of-requires-2 c = omega (arith, c.furthest-highest.ensures, rate_growth_most c.args.self.now.tables c.args.year High)
+pub forward_of-requires-2 : goal.forward_of-requires-2
+forward_of-requires-2 c = omega (arith, c.furthest-highest.ensures, rate_growth_most c.args.self.now.tables c.args.year High)
 
 pub returns : goal.returns
 returns c =

@@ -1,4 +1,4 @@
-use Rattle.std.proofs.Common.{◌≡◌, ℕ, ◌+◌, List, ℤ, ◌+ℤ◌, IfOk, Some, None, Ok, Err, Option, Result, sym, refl, ap, ◌∙◌, subst, arith, w32, SFits, rules}
+use Rattle.std.proofs.Common.{◌≡◌, ℕ, ◌+◌, List, ℤ, ◌+ℤ◌, IfOk, Some, None, Ok, Err, Option, Result, sym, ap, ◌∙◌, subst, arith, w32, SFits, rules}
 use Rattle.std.proofs.lemmas.Int.{ints, to_z-of_z}
 use Rattle.std.proofs.lemmas.Result.{err_from_is_err_and}
 use Rattle.instruments.specs.Law.{ok_map}
@@ -26,12 +26,12 @@ sound k xs r e = record {
   encloses = λ growth enclosed. follows r (asked_reserve k.tables xs) e (ReserveBetween growth xs) (reserve_between k.tables xs growth enclosed);
 }
 
-pub returns-in-err-flows-within : goal.returns-in-err-flows-within
-returns-in-err-flows-within c =
-    let e = err_from_is_err_and c.from-residual.result c.from-residual.ensures.1 in
+pub returns-in_err-flows_within : goal.returns-in_err-flows_within
+returns-in_err-flows_within c =
+    let e = err_from_is_err_and c.from_residual.result c.from_residual.ensures.1 in
     let T = c.args.self.now.tables in
     let xs = c.args.flows.now in
-    let all = sound c.args.self.now xs c.from-residual.result (e.1 ∙ ap Err e.2 ∙ ap (ok_map (λ _. signed_pair (reserve_from T 0 xs))) c.in-err-flows-within.ensures) in
+    let all = sound c.args.self.now xs c.from_residual.result (e.1 ∙ ap Err e.2 ∙ ap (ok_map (λ _. signed_pair (reserve_from T 0 xs))) c.in_err-flows_within.ensures) in
     record { value = all.value; ordered = all.ordered; encloses = all.encloses }
 
 pub loop-year-preserved : goal.loop-year-preserved
@@ -50,7 +50,7 @@ loop-year-preserved c =
           (summed_more T xs i b so (Some z) (omega arith) w.in-Some.is w.with_flow-balance.result (λ σ. more.result_value σ ∙ ap (λ a. left_of b σ +ℤ share T i a σ) (to_z-of_z w32 z fits)) more.bounded_2)
       | in_default w ↦
           subst (Summed T xs (i + 1)) (sym w.balance-is)
-          (summed_more T xs i b so None (omega arith) w.in-default.is b (λ σ. omega (arith, ints)) (λ σ. (omega (arith, (so.1 σ).0), omega (arith, (so.1 σ).1))))
+          (summed_more T xs i b so None (omega arith) w.in_default.is b (λ σ. omega (arith, ints)) (λ σ. (omega (arith, (so.1 σ).0), omega (arith, (so.1 σ).1))))
     ]
 
 pub left-requires : goal.left-requires

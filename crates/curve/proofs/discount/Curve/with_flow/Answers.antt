@@ -6,17 +6,17 @@ use Rattle.curve.specs.declared.side.Side.TheVariants.{Low, High}
 use Rattle.curve.proofs.Shares.{gained_within, lost_within, share_gained, share_lost}
 use Rattle.curve.proofs.discount.Curve.with_flow.Goals as goal
 
-pub overflow-add-result : goal.overflow-add-result
-overflow-add-result c = record { fits = omega (arith, c.requires.0, c.requires.1 Low, c.portion-low.ensures.small Low) }
+pub overflow_add-result : goal.overflow_add-result
+overflow_add-result c = record { fits = omega (arith, c.requires.year_bound, c.requires.bounded Low, c.portion-low.ensures.small Low) }
 
-pub overflow-add-result-then-amount-lt0 : goal.overflow-add-result-then-amount-lt0
-overflow-add-result-then-amount-lt0 c = record { fits = omega (arith, c.requires.0, c.requires.1 High, c.portion-low.ensures.small High) }
+pub overflow_add-result-then-amount-lt0 : goal.overflow_add-result-then-amount-lt0
+overflow_add-result-then-amount-lt0 c = record { fits = omega (arith, c.requires.year_bound, c.requires.bounded High, c.portion-low.ensures.small High) }
 
-pub overflow-add-result-else-amount-lt0 : goal.overflow-add-result-else-amount-lt0
-overflow-add-result-else-amount-lt0 c = record { fits = omega (arith, c.requires.0, c.requires.1 Low, c.portion-low-else-amount-lt0.ensures.small Low) }
+pub overflow_add-result-else-amount-lt0 : goal.overflow_add-result-else-amount-lt0
+overflow_add-result-else-amount-lt0 c = record { fits = omega (arith, c.requires.year_bound, c.requires.bounded Low, c.portion-low-else-amount-lt0.ensures.small Low) }
 
-pub overflow-add-result-else-amount-lt0-2 : goal.overflow-add-result-else-amount-lt0-2
-overflow-add-result-else-amount-lt0-2 c = record { fits = omega (arith, c.requires.0, c.requires.1 High, c.portion-low-else-amount-lt0.ensures.small High) }
+pub overflow_add-result-else-amount-lt0-2 : goal.overflow_add-result-else-amount-lt0-2
+overflow_add-result-else-amount-lt0-2 c = record { fits = omega (arith, c.requires.year_bound, c.requires.bounded High, c.portion-low-else-amount-lt0.ensures.small High) }
 
 pub returns-then-amount-lt0 : goal.returns-then-amount-lt0
 returns-then-amount-lt0 c =
@@ -26,7 +26,7 @@ returns-then-amount-lt0 c =
     let size : c.unsigned_abs.result ≡ nat_abs z = c.unsigned_abs.ensures.value ∙ ap nat_abs (to_z-of_z w32 z c.ranges.amount) in
     let negative : z <ℤ pos 0 = grind (arith, ints) in (record {
       result_value = share_lost T c.args.year c.args.so_far p z (c.portion-low.ensures.value ∙ ap (λ a. pair (portion T c.args.year a)) size) negative;
-      bounded_2 = lost_within c.args.year c.args.so_far p c.requires.1 c.portion-low.ensures.small;
+      bounded_2 = lost_within c.args.year c.args.so_far p c.requires.bounded c.portion-low.ensures.small;
     })
 
 pub returns-else-amount-lt0 : goal.returns-else-amount-lt0

@@ -54,11 +54,11 @@ returns-then-low-eq-MOST g c =
     let means = g.K.Instrument.means x.instrument in
     above (gap_worth x.known x.start x.last means) means c.maturity-maturity.result c.maturity-maturity.ensures c.furthest_growths-low.result c.furthest_growths-low.ensures c.if-high-eq-LEAST.false c.if-low-eq-MOST.true
 
-pub overflow-add-low : goal.overflow-add-low
-overflow-add-low g c =
+pub overflow_add-low : goal.overflow_add-low
+overflow_add-low g c =
     let x = c.args.self.now in
     let means = g.K.Instrument.means x.instrument in
-    record { fits = omega (arith, small (gap_worth x.known x.start x.last means) means c.maturity-maturity.result c.maturity-maturity.ensures c.furthest-growths-low.result c.furthest-growths-low.ensures) }
+    record { fits = omega (arith, small (gap_worth x.known x.start x.last means) means c.maturity-maturity.result c.maturity-maturity.ensures c.furthest_growths-low.result c.furthest_growths-low.ensures) }
 
 pub returns-then-high-low : goal.returns-then-high-low
 returns-then-high-low g c =

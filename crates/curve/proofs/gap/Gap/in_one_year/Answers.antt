@@ -1,4 +1,4 @@
-use Rattle.std.proofs.Common.{◌≡◌, ℕ, ◌+◌, ◌-◌, ◌*◌, ◌/◌, min, max, sym, ap, ◌∙◌}
+use Rattle.std.proofs.Common.{◌≡◌, ℕ, ◌-◌, ◌*◌, ◌/◌, min, max, sym, ap, ◌∙◌}
 use Rattle.curve.specs.Range.{unit, least, most}
 use Rattle.curve.specs.Steps.{quotient, side_of}
 use Rattle.curve.specs.declared.side.Side.{Side}

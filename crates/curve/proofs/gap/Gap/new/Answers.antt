@@ -26,17 +26,17 @@ pub loop-year-init : goal.loop-year-init
 unfolding worth
 loop-year-init g c = ((g.met.K.Instrument.lawful c.args.instrument).one_year, refl, refl, omega arith, omega arith)
 
-pub overflow-mul-low : goal.overflow-mul-low
-overflow-mul-low g c = record { fits = omega (arith, adds c.args.tables.now c.requires (g.K.Instrument.means c.args.instrument) (g.met.K.Instrument.lawful c.args.instrument) Low c.loop-year.year c.payment-payment.result c.payment-payment.ensures (omega (arith, c.loop-year-test.true))) }
+pub overflow_mul-low : goal.overflow_mul-low
+overflow_mul-low g c = record { fits = omega (arith, adds c.args.tables.now c.requires (g.K.Instrument.means c.args.instrument) (g.met.K.Instrument.lawful c.args.instrument) Low c.loop-year.year c.payment-payment.result c.payment-payment.ensures (omega (arith, c.loop-year-test.true))) }
 
-pub overflow-add-low : goal.overflow-add-low
-overflow-add-low g c = record { fits = omega (arith, c.loop-year.invariant.3, c.requires.ends, c.loop-year-test.true, adds c.args.tables.now c.requires (g.K.Instrument.means c.args.instrument) (g.met.K.Instrument.lawful c.args.instrument) Low c.loop-year.year c.payment-payment.result c.payment-payment.ensures (omega (arith, c.loop-year-test.true))) }
+pub overflow_add-low : goal.overflow_add-low
+overflow_add-low g c = record { fits = omega (arith, c.loop-year.invariant.3, c.requires.ends, c.loop-year-test.true, adds c.args.tables.now c.requires (g.K.Instrument.means c.args.instrument) (g.met.K.Instrument.lawful c.args.instrument) Low c.loop-year.year c.payment-payment.result c.payment-payment.ensures (omega (arith, c.loop-year-test.true))) }
 
-pub overflow-mul-high : goal.overflow-mul-high
-overflow-mul-high g c = record { fits = omega (arith, adds c.args.tables.now c.requires (g.K.Instrument.means c.args.instrument) (g.met.K.Instrument.lawful c.args.instrument) High c.loop-year.year c.payment-payment.result c.payment-payment.ensures (omega (arith, c.loop-year-test.true))) }
+pub overflow_mul-high : goal.overflow_mul-high
+overflow_mul-high g c = record { fits = omega (arith, adds c.args.tables.now c.requires (g.K.Instrument.means c.args.instrument) (g.met.K.Instrument.lawful c.args.instrument) High c.loop-year.year c.payment-payment.result c.payment-payment.ensures (omega (arith, c.loop-year-test.true))) }
 
-pub overflow-add-high : goal.overflow-add-high
-overflow-add-high g c = record { fits = omega (arith, c.loop-year.invariant.4, c.requires.ends, c.loop-year-test.true, adds c.args.tables.now c.requires (g.K.Instrument.means c.args.instrument) (g.met.K.Instrument.lawful c.args.instrument) High c.loop-year.year c.payment-payment.result c.payment-payment.ensures (omega (arith, c.loop-year-test.true))) }
+pub overflow_add-high : goal.overflow_add-high
+overflow_add-high g c = record { fits = omega (arith, c.loop-year.invariant.4, c.requires.ends, c.loop-year-test.true, adds c.args.tables.now c.requires (g.K.Instrument.means c.args.instrument) (g.met.K.Instrument.lawful c.args.instrument) High c.loop-year.year c.payment-payment.result c.payment-payment.ensures (omega (arith, c.loop-year-test.true))) }
 
 pub loop-year-preserved : goal.loop-year-preserved
 loop-year-preserved g c =
@@ -54,17 +54,17 @@ loop-year-preserved g c =
       omega (arith, more High, i.4, c.loop-year.auto.year),
     )
 
-pub overflow-mul-low-then-maturity-last : goal.overflow-mul-low-then-maturity-last
-overflow-mul-low-then-maturity-last g c = record { fits = omega (arith, adds c.args.tables.now c.requires (g.K.Instrument.means c.args.instrument) (g.met.K.Instrument.lawful c.args.instrument) Low c.maturity-maturity.result c.payment-payment-then-maturity-last.result c.payment-payment-then-maturity-last.ensures (omega (arith, c.if-maturity-last.true))) }
+pub overflow_mul-low-then-maturity-last : goal.overflow_mul-low-then-maturity-last
+overflow_mul-low-then-maturity-last g c = record { fits = omega (arith, adds c.args.tables.now c.requires (g.K.Instrument.means c.args.instrument) (g.met.K.Instrument.lawful c.args.instrument) Low c.maturity-maturity.result c.payment-payment-then-maturity-last.result c.payment-payment-then-maturity-last.ensures (omega (arith, c.if-maturity-last.true))) }
 
-pub overflow-add-low-then-maturity-last : goal.overflow-add-low-then-maturity-last
-overflow-add-low-then-maturity-last g c = record { fits = omega (arith, c.loop-year.invariant.3, c.loop-year.invariant.0, (g.met.K.Instrument.lawful c.args.instrument).ninety_years, adds c.args.tables.now c.requires (g.K.Instrument.means c.args.instrument) (g.met.K.Instrument.lawful c.args.instrument) Low c.maturity-maturity.result c.payment-payment-then-maturity-last.result c.payment-payment-then-maturity-last.ensures (omega (arith, c.if-maturity-last.true))) }
+pub overflow_add-low-then-maturity-last : goal.overflow_add-low-then-maturity-last
+overflow_add-low-then-maturity-last g c = record { fits = omega (arith, c.loop-year.invariant.3, c.loop-year.invariant.0, (g.met.K.Instrument.lawful c.args.instrument).ninety_years, adds c.args.tables.now c.requires (g.K.Instrument.means c.args.instrument) (g.met.K.Instrument.lawful c.args.instrument) Low c.maturity-maturity.result c.payment-payment-then-maturity-last.result c.payment-payment-then-maturity-last.ensures (omega (arith, c.if-maturity-last.true))) }
 
-pub overflow-mul-high-then-maturity-last : goal.overflow-mul-high-then-maturity-last
-overflow-mul-high-then-maturity-last g c = record { fits = omega (arith, adds c.args.tables.now c.requires (g.K.Instrument.means c.args.instrument) (g.met.K.Instrument.lawful c.args.instrument) High c.maturity-maturity.result c.payment-payment-then-maturity-last.result c.payment-payment-then-maturity-last.ensures (omega (arith, c.if-maturity-last.true))) }
+pub overflow_mul-high-then-maturity-last : goal.overflow_mul-high-then-maturity-last
+overflow_mul-high-then-maturity-last g c = record { fits = omega (arith, adds c.args.tables.now c.requires (g.K.Instrument.means c.args.instrument) (g.met.K.Instrument.lawful c.args.instrument) High c.maturity-maturity.result c.payment-payment-then-maturity-last.result c.payment-payment-then-maturity-last.ensures (omega (arith, c.if-maturity-last.true))) }
 
-pub overflow-add-high-then-maturity-last : goal.overflow-add-high-then-maturity-last
-overflow-add-high-then-maturity-last g c = record { fits = omega (arith, c.loop-year.invariant.4, c.loop-year.invariant.0, (g.met.K.Instrument.lawful c.args.instrument).ninety_years, adds c.args.tables.now c.requires (g.K.Instrument.means c.args.instrument) (g.met.K.Instrument.lawful c.args.instrument) High c.maturity-maturity.result c.payment-payment-then-maturity-last.result c.payment-payment-then-maturity-last.ensures (omega (arith, c.if-maturity-last.true))) }
+pub overflow_add-high-then-maturity-last : goal.overflow_add-high-then-maturity-last
+overflow_add-high-then-maturity-last g c = record { fits = omega (arith, c.loop-year.invariant.4, c.loop-year.invariant.0, (g.met.K.Instrument.lawful c.args.instrument).ninety_years, adds c.args.tables.now c.requires (g.K.Instrument.means c.args.instrument) (g.met.K.Instrument.lawful c.args.instrument) High c.maturity-maturity.result c.payment-payment-then-maturity-last.result c.payment-payment-then-maturity-last.ensures (omega (arith, c.if-maturity-last.true))) }
 
 -- the sum of the years before maturity, with the payment at maturity if the curve goes so far
 module _ (pay f : ℕ → ℕ) (m last year sum : ℕ) (stopped : year ≡ min m (last + 1)) (so : sum ≡ worth pay f (year - 1)) where
@@ -76,8 +76,8 @@ module _ (pay f : ℕ → ℕ) (m last year sum : ℕ) (stopped : year ≡ min m
       let e : year - 1 ≡ m - 1 = omega arith in
       omega (arith, so, ap (worth pay f) e, ap (λ q. q * f m) paid, worth_turn pay f m one, worth_past pay f m last none h)
 
-pub invariant-of-result : goal.invariant-of-result
-invariant-of-result g c =
+pub invariant_of-result : goal.invariant_of-result
+invariant_of-result g c =
     let T = c.args.tables.now in
     let x = g.K.Instrument.means c.args.instrument in
     let law = g.met.K.Instrument.lawful c.args.instrument in
@@ -89,7 +89,7 @@ invariant-of-result g c =
           (omega (arith, w.low-is, more Low, i.3, i.0, law.ninety_years), omega (arith, w.high-is, more High, i.4, i.0, law.ninety_years))
       | else-maturity-last w ↦ (omega (arith, w.low-is, i.3, i.0, law.ninety_years), omega (arith, w.high-is, i.4, i.0, law.ninety_years))
     ] in
-    (c.requires.ends, ((factor_small T c.requires Low T.last c.requires.ends, factor_small T c.requires High T.last c.requires.ends), (small, tt)))
+    record { year = c.requires.ends; started = (factor_small T c.requires Low T.last c.requires.ends, factor_small T c.requires High T.last c.requires.ends); small = small }
 
 pub returns : goal.returns
 returns g c =

@@ -1,4 +1,4 @@
-use Rattle.std.proofs.Common.{◌≡◌, ℕ, ◌-◌, ◌*◌, ◌≤◌}
+use Rattle.std.proofs.Common.{◌≡◌, ◌-◌, ◌*◌, ◌≤◌}
 use Rattle.curve.specs.Market.{factor_of}
 use Rattle.curve.specs.Worths.{worth}
 use Rattle.curve.specs.declared.side.Side.TheVariants.{Low, High}

@@ -26,12 +26,12 @@ loop-year-init g c =
       omega (arith, c.of-worth.ensures, side_most σ x.known 240000000000000000 x.small),
     )
 
-pub overflow-add-worth : goal.overflow-add-worth
-overflow-add-worth g c =
+pub overflow_add-worth : goal.overflow_add-worth
+overflow_add-worth g c =
     let law = g.met.K.Instrument.lawful c.args.self.now.instrument in
     let year = c.loop-year.year in
-    let more : c.payment.result * c.discount-factor.result ≤ 2000000 * unit = mul-le-mul {n₁ = c.payment.result} {m₁ = c.discount-factor.result} {n₂ = 2000000} {m₂ = unit} (omega (arith, law.payment_limit year, c.payment.ensures)) c.discount-factor.ensures.1 in
-    record { fits = omega (arith, more, c.loop-year.invariant.4, c.loop-year-test.true, c.maturity-year-end.type-inv) }
+    let more : c.payment.result * c.discount-factor.result ≤ 2000000 * unit = mul-le-mul {n₁ = c.payment.result} {m₁ = c.discount-factor.result} {n₂ = 2000000} {m₂ = unit} (omega (arith, law.payment_limit year, c.payment.ensures)) c.discount-factor.ensures.upper_bound in
+    record { fits = omega (arith, more, c.loop-year.invariant.4, c.loop-year-test.true, c.maturity-year-end.type_inv) }
 
 pub loop-year-preserved : goal.loop-year-preserved
 loop-year-preserved g c =

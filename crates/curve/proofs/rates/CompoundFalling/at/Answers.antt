@@ -1,8 +1,7 @@
-use Rattle.std.proofs.Common.{◌≡◌, sym, refl, ap, ◌∙◌, arith}
+use Rattle.std.proofs.Common.{sym, ap, ◌∙◌, arith}
 use Rattle.curve.specs.Range.{unit}
 use Rattle.curve.specs.Steps.{step}
 use Rattle.curve.specs.Worths.{level}
-use Rattle.curve.specs.Rates.{compounded}
 use Rattle.curve.proofs.Continuation.{continued_known, continued_next}
 use Rattle.curve.proofs.rates.CompoundFalling.at.Goals as goal
 

@@ -1,4 +1,4 @@
-use Rattle.std.proofs.Common.{sym, refl, ap}
+use Rattle.std.proofs.Common.{sym, ap}
 use Rattle.curve.specs.Steps.{quotient}
 use Rattle.curve.proofs.side.Side.divide.Goals as goal
 

@@ -1,24 +1,22 @@
-use Rattle.std.proofs.Common.{◌≡◌, ℕ, ◌+◌, ◌-◌, ◌*◌, ◌<◌, ◌≤◌, List, set, Ok, sym, ap, ◌∙◌, subst, arith}
+use Rattle.std.proofs.Common.{◌≡◌, ℕ, ◌<◌, ◌≤◌, List, set, Ok, sym, ap, ◌∙◌, subst, arith}
 use Rattle.std.proofs.lemmas.Result.{err_from_is_err_and}
 use Rattle.std.proofs.lemmas.Bool.{true≢false}
 use Rattle.instruments.specs.Law.{Meaning}
-use Rattle.curve.specs.Steps.{side_of, opposite, pair}
+use Rattle.curve.specs.Steps.{pair}
 use Rattle.curve.specs.Market.{entry, step_pair, tightened, extended, extended_growths, extended_factors, by_year, stepped, Ordered}
-use Rattle.curve.specs.declared.side.Side.{Side}
-use Rattle.curve.specs.declared.side.Side.TheVariants.{Low, High}
 use Rattle.curve.specs.declared.tables.Tables.{Tables}
 use Rattle.curve.proofs.Bounds.{factor_small}
 use Rattle.curve.proofs.Gaps.{growths_range, stepped_order, stepped_small, extended_ordered}
 use Rattle.curve.proofs.Extension.{refused_alike, accepted_alike, extends_alike, leaves_alike, tightened_alike, steps_at, growths_alike, factors_alike}
 use Rattle.curve.proofs.tables.Tables.extend.Goals as goal
 
-pub returns-in-err-growths : goal.returns-in-err-growths
-returns-in-err-growths g c =
-    let p = err_from_is_err_and c.from-residual.result c.from-residual.ensures.1 in
+pub returns-in_err-growths : goal.returns-in_err-growths
+returns-in_err-growths g c =
+    let p = err_from_is_err_and c.from_residual.result c.from_residual.ensures.1 in
     let r = c.new-gap.result in
     let n = c.new-gap.ensures in
     rw (p.1, p.2) (record {
-      gap = refused_alike c.args.self.now c.requires (g.K.Instrument.means c.args.instrument) (g.met.K.Instrument.lawful c.args.instrument) r.known r.start r.last (g.K.Instrument.means r.instrument) (ap g.K.Instrument.means n.same) n.year n.begun n.summed c.in-err-growths.field-0.0 c.in-err-growths.ensures;
+      gap = refused_alike c.args.self.now c.requires (g.K.Instrument.means c.args.instrument) (g.met.K.Instrument.lawful c.args.instrument) r.known r.start r.last (g.K.Instrument.means r.instrument) (ap g.K.Instrument.means n.same) n.year n.begun n.summed c.in_err-growths.field-0.0 c.in_err-growths.ensures;
       ordered = λ e. absurd (true≢false (sym e));
     })
 

@@ -1,4 +1,4 @@
-use Rattle.std.proofs.Common.{◌≡◌, sym, ap, ◌∙◌}
+use Rattle.std.proofs.Common.{sym, ap, ◌∙◌}
 use Rattle.curve.specs.Blending.{blended_growth}
 use Rattle.curve.specs.Steps.{side_of}
 use Rattle.curve.specs.declared.side.Side.{Side}

@@ -11,9 +11,9 @@ returns-in-Some c =
     let high = c.in-Some.high in
     let low_fits : SFits w64 low = search rules in
     let high_fits : SFits w64 high = search rules in
-    c.extend-from-slice-in-Some.ensures.items
-    ∙ ap (λ l. cond (is_ok c.extend-from-slice-in-Some.result) (before ++ l) before)
-    (parts_line c.args.self.now low high c.spell-in-Some.new.line c.to-be-bytes.result c.to-be-bytes-in-Some.result c.spell-in-Some-2.new.line c.spell-in-Some-3.new.line c.in-Some.is
+    c.extend_from_slice-in-Some.ensures.items
+    ∙ ap (λ l. cond (is_ok c.extend_from_slice-in-Some.result) (before ++ l) before)
+    (parts_line c.args.self.now low high c.spell-in-Some.new.line c.to_be_bytes.result c.to_be_bytes-in-Some.result c.spell-in-Some-2.new.line c.spell-in-Some-3.new.line c.in-Some.is
     c.spell-in-Some.ensures
-    c.spell-in-Some-2.ensures (c.to-be-bytes.ensures ∙ ap (λ z. eight_bytes (of_z w64 z)) (to_z-of_z w64 low low_fits))
-    c.spell-in-Some-3.ensures (c.to-be-bytes-in-Some.ensures ∙ ap (λ z. eight_bytes (of_z w64 z)) (to_z-of_z w64 high high_fits)))
+    c.spell-in-Some-2.ensures (c.to_be_bytes.ensures ∙ ap (λ z. eight_bytes (of_z w64 z)) (to_z-of_z w64 low low_fits))
+    c.spell-in-Some-3.ensures (c.to_be_bytes-in-Some.ensures ∙ ap (λ z. eight_bytes (of_z w64 z)) (to_z-of_z w64 high high_fits)))
