@@ -1,10 +1,10 @@
 -- What a call comes to in each case.
-use Rattle.std.proofs.Common.{◌≡◌, ℕ, ◌<◌, ◌≤◌, Bool, true, false, cond, not, ltb, length, set, ℤ, is_some, Some, None, Ok, Err, Result, sym, refl, ap, ◌∙◌}
+use Rattle.std.proofs.Common.{◌≡◌, ℕ, ◌<◌, ◌≤◌, Bool, true, false, cond, not, ltb, length, set, ℤ, is_some, Some, None, Ok, Err, sym, ap, ◌∙◌}
 use Rattle.std.proofs.lemmas.Bool.{cond-true, cond-false, lt-ltb, le-ltb}
 use Rattle.instruments.specs.Law.{Meaning}
 use Rattle.instruments.specs.Limits.{if_kept}
 use Rattle.instruments.specs.declared.refusal.Refusal.{Refusal}
-use Rattle.instruments.specs.declared.refusal.Refusal.TheVariants.{AfterConvergence, MaturityHeld, NoPlaceLeft, FlowHeld}
+use Rattle.instruments.specs.declared.refusal.Refusal.TheVariants.{NoPlaceLeft, FlowHeld}
 use Rattle.curve.specs.Currencies.{after_convergence}
 use Rattle.curve.specs.Market.{and_then}
 use Rattle.book.specs.Flows.{flow_making}

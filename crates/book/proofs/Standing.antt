@@ -1,5 +1,5 @@
 -- The promise, proved of registers alone: a valid register stands, and every call keeps a register valid.
-use Rattle.std.proofs.Common.{◌≡◌, ℕ, ◌<◌, ◌≤◌, Bool, true, false, cond, not, eqb, ltb, List, [], ◌∷◌, ◌++◌, map, length, ℤ, is_some, IfOk, Some, None, Ok, Err, Option, Result, sym, refl, ap, ◌∙◌, subst, inl, inr, arith}
+use Rattle.std.proofs.Common.{◌≡◌, ℕ, ◌<◌, ◌≤◌, Bool, true, false, cond, not, ltb, List, [], ◌∷◌, ◌++◌, map, length, ℤ, is_some, IfOk, Some, None, Ok, Err, Option, Result, sym, refl, ap, ◌∙◌, subst, inl, inr, arith}
 use Rattle.std.proofs.lemmas.Bool.{cases_lt, cond-true, cond-false, lt-ltb, le-ltb, false≢true, eqb-false}
 use Rattle.instruments.specs.Law.{Meaning, Lawful, ok_map}
 use Rattle.instruments.specs.Limits.{if_kept}
@@ -24,8 +24,7 @@ use Rattle.curve.proofs.Stripped.{AllLawful}
 use Rattle.book.specs.Books.{call_means}
 use Rattle.book.specs.Flows.{flow_making}
 use Rattle.book.specs.Promise.{after, Figured, Ascending, Within, InOrder, Stands, Promise}
-use Rattle.book.specs.Register
-use Rattle.book.specs.Register.{Register, Outcome, opened, requoted, reflowed, marked_settled, is_held, placed, taken_out, flow_of, changed, asking, register_after, answered, outcome, told, reply}
+use Rattle.book.specs.Register.{Register, Outcome, opened, requoted, marked_settled, is_held, placed, taken_out, flow_of, changed, asking, register_after, answered, told, reply}
 use Rattle.book.specs.declared.call.Call.{Call}
 use Rattle.book.specs.declared.call.Call.TheVariants.{Enter, Withdraw, Post, Strike, Settle, Forward, Factor, Rate, Reserve}
 use Rattle.book.proofs.Ranks.{held_more, held_here}

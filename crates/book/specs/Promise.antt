@@ -1,5 +1,5 @@
 -- The promise: what a book's answers owe to every run of calls since it was opened, for every exact curve that its quotations admit.
-use Rattle.std.specs.Prelude.{◌≡◌, ℕ, ◌<◌, true, List, [], ◌∷◌, ◌++◌, ℤ, Some, None, Ok, Err, Option, Result, ◌≢◌}
+use Rattle.std.specs.Prelude.{◌≡◌, ℕ, ◌<◌, List, [], ◌∷◌, ◌++◌, ℤ, Some, None, Ok, Err, Option, Result, ◌≢◌}
 use Rattle.instruments.specs.Law.{Meaning}
 use Rattle.instruments.specs.Refusals.{reported}
 use Rattle.instruments.specs.declared.refusal.Refusal.{Refusal}

@@ -1,4 +1,4 @@
-use Rattle.std.proofs.Common.{◌≡◌, ◌<◌, ◌≤◌, map, length, sym, ap, ◌∙◌, arith}
+use Rattle.std.proofs.Common.{◌<◌, ◌≤◌, length, sym, ap, ◌∙◌, arith}
 use Rattle.book.proofs.Ranks.{rank_next, rank_found, rank_none, held_next, held_found, held_none}
 use Rattle.book.proofs.calls.find.Goals as goal
 

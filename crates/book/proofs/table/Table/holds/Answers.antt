@@ -1,4 +1,4 @@
-use Rattle.std.proofs.Common.{◌≡◌, true, false, is_some, None, sym, ap, arith}
+use Rattle.std.proofs.Common.{is_some, None, sym, ap, arith}
 use Rattle.std.proofs.lemmas.List.{get_or_past}
 use Rattle.std.proofs.lemmas.Bool.{false≢true}
 use Rattle.book.proofs.table.Table.holds.Goals as goal

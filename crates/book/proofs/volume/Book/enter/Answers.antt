@@ -1,4 +1,4 @@
-use Rattle.std.proofs.Common.{◌≡◌, ◌<◌, ◌≤◌, min, Bool, false, map, length, take, Err, sym, refl, ap, ◌∙◌, arith}
+use Rattle.std.proofs.Common.{◌≡◌, ◌<◌, min, false, map, length, take, Err, sym, refl, ap, ◌∙◌, arith}
 use Rattle.curve.specs.Currencies.{span, after_convergence}
 use Rattle.instruments.specs.declared.refusal.Refusal.TheVariants.{NoPlaceLeft}
 use Rattle.book.specs.Books.{register_of, quotations_of, rows_of, rank}
@@ -28,10 +28,11 @@ returns-then-used-usable g c =
 pub enter-requires : goal.enter-requires
 enter-requires g c =
     let b = c.args.self.now in
-    let read = g.K.Instrument.read in (
-      omega (arith, c.find-at.ensures.place, rank_within c.maturity-maturity.result (quotations_of read b), used_is read (rows_of b) b.places.len),
-      omega (arith, c.if-used-usable.false, c.usable.ensures, c.used.ensures.value),
-    )
+    let read = g.K.Instrument.read in
+    record {
+      at_in_bounds = omega (arith, c.find-at.ensures.place, rank_within c.maturity-maturity.result (quotations_of read b), used_is read (rows_of b) b.places.len);
+      rows_in_bounds = omega (arith, c.if-used-usable.false, c.usable.ensures, c.used.ensures.value);
+    }
 
 pub returns : goal.returns
 returns g c =

@@ -1,10 +1,10 @@
-use Rattle.std.proofs.Common.{◌≡◌, sym, refl, ap, ◌∙◌, w32, SFits}
+use Rattle.std.proofs.Common.{refl, ap, ◌∙◌, w32, SFits}
 use Rattle.std.proofs.lemmas.Result.{err_from_is_err_and}
 use Rattle.std.proofs.lemmas.Int.{to_z-of_z}
 use Rattle.book.specs.Flows.{flow_making}
 use Rattle.book.specs.Books.{register_of}
 use Rattle.book.specs.Register.{register_after, answered}
-use Rattle.book.proofs.Outcomes.{posts_refused, posts_held, posts}
+use Rattle.book.proofs.Outcomes.{posts_refused}
 use Rattle.book.proofs.volume.Book.post.Goals as goal
 
 pub returns-in_err-flow : goal.returns-in_err-flow
