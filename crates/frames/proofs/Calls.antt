@@ -1,18 +1,14 @@
 -- The call of a frame, and what a line comes to, from what the readers answer.
-use Rattle.std.proofs.Common.{◌≡◌, ℕ, ◌-◌, min, Bool, true, false, List, [], ◌∷◌, length, take, drop, Ok, Err, Result, sym, refl, ap, ◌∙◌, arith}
+use Rattle.std.proofs.Common.{◌≡◌, ℕ, min, false, List, [], ◌∷◌, length, drop, Ok, Result, sym, refl, ap, ◌∙◌, arith}
 use Rattle.std.proofs.lemmas.Bool.{cond-false}
 use Rattle.instruments.specs.Law.{Meaning, ok_map}
 use Rattle.instruments.specs.declared.refusal.Refusal.{Refusal}
 use Rattle.curve.specs.Market.{and_then}
-use Rattle.book.specs.Register.{Register, told, reply}
+use Rattle.book.specs.Register.{Register}
 use Rattle.book.specs.declared.call.Call.{Call}
 use Rattle.book.specs.declared.call.Call.TheVariants as call
-use Rattle.frames.specs.Answers.{refused_answer}
 use Rattle.frames.specs.Frames.{frame_read}
-use Rattle.frames.specs.Letters.{letter_code}
-use Rattle.frames.specs.Sessions.{Kind, line_read, call_of, opens, frame_call, reply_answer, call_outcome, read_outcome, line_outcome}
-use Rattle.frames.specs.declared.answer.Answer.{Answer}
-use Rattle.frames.specs.declared.frame.Frame.{Frame}
+use Rattle.frames.specs.Sessions.{Kind, line_read, call_of, opens, frame_call, call_outcome, read_outcome, line_outcome}
 use Rattle.frames.specs.declared.frame.Frame.TheVariants as frame
 use Rattle.frames.specs.declared.letter.Letter.{Letter}
 use Rattle.frames.specs.declared.letter.Letter.TheVariants as letter

@@ -1,11 +1,8 @@
 -- What a line comes to, before a book is open and after.
-use Rattle.std.specs.Prelude.{ℕ, Bool, true, false, cond, ◌&&◌, ◌||◌, List, [], ◌∷◌, ◌++◌, map, drop, ℤ, Some, None, Ok, Err, Option, Result, ◌==◌}
+use Rattle.std.specs.Prelude.{ℕ, Bool, cond, List, [], ◌∷◌, ◌++◌, drop, ℤ, Some, None, Ok, Err, Option, Result, ◌==◌}
 use Rattle.instruments.specs.Law.{Meaning, ok_map}
-use Rattle.instruments.specs.Limits.{if_kept}
-use Rattle.instruments.specs.declared.class.Class.{Class}
-use Rattle.instruments.specs.declared.class.Class.TheVariants.{OccupationalPension, OtherInsurance}
 use Rattle.instruments.specs.declared.refusal.Refusal.{Refusal}
-use Rattle.instruments.specs.declared.refusal.Refusal.TheVariants.{Malformed, OutOfTurn, UnknownKind}
+use Rattle.instruments.specs.declared.refusal.Refusal.TheVariants.{Malformed, OutOfTurn}
 use Rattle.curve.specs.Market.{and_then}
 use Rattle.book.specs.Register.{Register, told, reply}
 use Rattle.book.specs.declared.call.Call.{Call}
@@ -18,7 +15,6 @@ use Rattle.frames.specs.declared.answer.Answer.{Answer}
 use Rattle.frames.specs.declared.frame.Frame.{Frame}
 use Rattle.frames.specs.declared.frame.Frame.TheVariants as frame
 use Rattle.frames.specs.declared.letter.Letter.{Letter}
-use Rattle.frames.specs.declared.letter.Letter.TheVariants as letter
 
 -- a kind of instrument as frames know it: the length of its quotation frame, and what the body of one makes
 pub record Kind : Type 0 where

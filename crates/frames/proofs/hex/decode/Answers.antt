@@ -1,4 +1,4 @@
-use Rattle.std.proofs.Common.{◌≡◌, ℕ, ◌*◌, ◌/◌, length, take, Some, sym, ap, ◌∙◌, arith, length-set, rules}
+use Rattle.std.proofs.Common.{◌≡◌, ◌/◌, length, take, Some, sym, ap, ◌∙◌, arith, length-set, rules}
 use Rattle.frames.proofs.Decoded.{decoded_more, decoded_none, decoded_all, wrong_count}
 use Rattle.frames.proofs.hex.decode.Goals as goal
 

@@ -1,4 +1,4 @@
-use Rattle.std.proofs.Common.{◌≡◌, ℕ, ◌+◌, ◌-◌, length, get_or, take, sym, ap, arith, ne_eqb}
+use Rattle.std.proofs.Common.{◌≡◌, ◌+◌, ◌-◌, length, get_or, take, sym, ap, arith, ne_eqb}
 use Rattle.std.proofs.lemmas.List.{take_all}
 use Rattle.frames.proofs.Cut.{front_none, no_lines, cut, longer, ended, whole}
 use Rattle.frames.proofs.lines.first_line.Goals as goal

@@ -1,4 +1,4 @@
-use Rattle.std.proofs.Common.{◌≡◌, ◌+◌, ◌≤◌, [], ◌++◌, length, drop, vec_items, sym, ap, ◌∙◌, subst, arith}
+use Rattle.std.proofs.Common.{◌≡◌, ◌+◌, [], ◌++◌, length, drop, vec_items, sym, ap, ◌∙◌, subst, arith}
 use Rattle.std.proofs.lemmas.List.{take_rest, length-drop}
 use Rattle.curve.specs.Currencies.{span}
 use Rattle.book.specs.Register.{opened}
@@ -22,7 +22,7 @@ returns-in-Ok c =
     let rest = lines (drop (at + next) input) in
     let o = c.in-Ok.opening in (
       omega (arith, first.forward.1, c.loop-line.invariant.0, ap length (take_rest input at), length-drop at input),
-      ap (λ l. l ++ open_answers (kind_for (named_code o.kind) o.class) (opened (span o.terms) 60) rest) c.in_ok-write.ensures
+      ap (λ l. l ++ open_answers (kind_for (named_code o.kind) o.class) (opened (span o.terms) 60) rest) c.in_ok-write-in-Ok.ensures
           ∙ opened_turn (named_code o.kind) o.class (span o.terms) line rest items c.accepted.result c.in-Ok.ensures c.accepted.ensures
           ∙ ap (λ l. items ++ closed_answers l) (sym (lines_turn input line at next first.steps)) ∙ c.loop-line.invariant.1,
       λ p. c.loop-line.invariant.2 (subst ClosedPromise (sym (lines_turn input line at next first.steps)) (opened_promise (named_code o.kind) o.class (span o.terms) line rest c.in-Ok.ensures p)),
@@ -38,7 +38,7 @@ loop-line-preserved c =
     let items = vec_items c.loop-line.out in
     let rest = lines (drop (at + next) input) in (
       omega (arith, first.forward.1, c.loop-line.invariant.0, ap length (take_rest input at), length-drop at input),
-      ap (λ l. l ++ closed_answers rest) c.in_ok-write-2.ensures
+      ap (λ l. l ++ closed_answers rest) c.in_ok-write-in-Err.ensures
           ∙ refused_turn line rest items c.in-Err.refused c.in-Err.ensures
           ∙ ap (λ l. items ++ closed_answers l) (sym (lines_turn input line at next first.steps)) ∙ c.loop-line.invariant.1,
       λ p. c.loop-line.invariant.2 (subst ClosedPromise (sym (lines_turn input line at next first.steps)) (refused_promise c.in-Err.refused line rest c.in-Err.ensures p)),

@@ -1,4 +1,4 @@
-use Rattle.std.proofs.Common.{◌≡◌, ◌-◌, take, Err, sym, refl, ap, ◌∙◌, arith}
+use Rattle.std.proofs.Common.{◌≡◌, ◌-◌, take, Err, ap, ◌∙◌, arith}
 use Rattle.frames.specs.Inputs.{opening_answer, frame_opens, read_opens}
 use Rattle.frames.proofs.open.line_opens.Goals as goal
 

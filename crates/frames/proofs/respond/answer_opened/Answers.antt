@@ -1,4 +1,4 @@
-use Rattle.std.proofs.Common.{◌≡◌, ℕ, sym, ap, subst, rules}
+use Rattle.std.proofs.Common.{sym, subst, rules}
 use Rattle.curve.specs.Currencies.{span}
 use Rattle.book.specs.Promise.{Promise}
 use Rattle.frames.specs.Inputs.{named_code, kind_for}

@@ -1,4 +1,4 @@
-use Rattle.std.proofs.Common.{◌≡◌, ◌-◌, take, Ok, Err, sym, ap, ◌∙◌, arith}
+use Rattle.std.proofs.Common.{◌≡◌, ◌-◌, take, Ok, Err, ap, ◌∙◌, arith}
 use Rattle.book.specs.Books.{call_means, register_of}
 use Rattle.frames.specs.Reads.{kind_of}
 use Rattle.frames.specs.Sessions.{frame_call, reply_answer}

@@ -1,4 +1,4 @@
-use Rattle.std.proofs.Common.{◌≡◌, cond, ◌++◌, is_ok, vec_items, ap, ◌∙◌, w64, SFits, of_z, rules}
+use Rattle.std.proofs.Common.{cond, ◌++◌, is_ok, vec_items, ap, ◌∙◌, w64, SFits, of_z, rules}
 use Rattle.std.proofs.lemmas.Int.{to_z-of_z}
 use Rattle.frames.specs.Answers.{eight_bytes}
 use Rattle.frames.proofs.Written.{parts_line}
