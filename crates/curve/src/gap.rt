@@ -65,12 +65,10 @@ impl<K: Instrument> Gap<K> {
     {
         let last = tables.last;
         let maturity = instrument.maturity();
+        let end = maturity.min(last + 1);
         let mut low = 0;
         let mut high = 0;
-        for year in 1..last + 1 {
-            if year >= maturity {
-                break;
-            }
+        for year in 1..end {
             let factors = tables.factors[year as usize];
             let payment = instrument.payment(year);
             low += payment * factors.0;

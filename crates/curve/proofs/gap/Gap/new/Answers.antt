@@ -8,7 +8,7 @@ use Rattle.instruments.specs.Law.{Meaning, Lawful}
 use Rattle.curve.proofs.Bounds.{factor_small, payment_small}
 use Rattle.curve.proofs.Continuation.{worth_turn, worth_past}
 use Rattle.curve.proofs.gap.Gap.new.Goals as goal
-use Rattle.curve.proofs.gap.Gap.new.Goals.{else-loop-year-test, then-loop-year-test+then-year-maturity, then-maturity-last, else-maturity-last}
+use Rattle.curve.proofs.gap.Gap.new.Goals.{then-maturity-last, else-maturity-last}
 
 -- what a year within the curve adds, on either side
 adds : (T : Tables) → Ordered T → (x : Meaning) → Lawful x → (σ : Side) (t p : ℕ) → p ≡ x.payment t → t ≤ T.last → p * factor_of T σ t ≤ 2000000000000000
@@ -27,16 +27,16 @@ unfolding worth
 loop-year-init g c = ((g.met.K.Instrument.lawful c.args.instrument).one_year, refl, refl, omega arith, omega arith)
 
 pub overflow_mul-low : goal.overflow_mul-low
-overflow_mul-low g c = record { fits = omega (arith, adds c.args.tables.now c.requires (g.K.Instrument.means c.args.instrument) (g.met.K.Instrument.lawful c.args.instrument) Low c.loop-year.year c.payment-payment.result c.payment-payment.ensures (omega (arith, c.loop-year-test.true))) }
+overflow_mul-low g c = record { fits = omega (arith, adds c.args.tables.now c.requires (g.K.Instrument.means c.args.instrument) (g.met.K.Instrument.lawful c.args.instrument) Low c.loop-year.year c.payment-payment.result c.payment-payment.ensures (omega (arith, c.loop-year-test.true, c.min-end.ensures))) }
 
 pub overflow_add-low : goal.overflow_add-low
-overflow_add-low g c = record { fits = omega (arith, c.loop-year.invariant.3, c.requires.ends, c.loop-year-test.true, adds c.args.tables.now c.requires (g.K.Instrument.means c.args.instrument) (g.met.K.Instrument.lawful c.args.instrument) Low c.loop-year.year c.payment-payment.result c.payment-payment.ensures (omega (arith, c.loop-year-test.true))) }
+overflow_add-low g c = record { fits = omega (arith, c.loop-year.invariant.3, c.requires.ends, c.loop-year-test.true, adds c.args.tables.now c.requires (g.K.Instrument.means c.args.instrument) (g.met.K.Instrument.lawful c.args.instrument) Low c.loop-year.year c.payment-payment.result c.payment-payment.ensures (omega (arith, c.loop-year-test.true, c.min-end.ensures))) }
 
 pub overflow_mul-high : goal.overflow_mul-high
-overflow_mul-high g c = record { fits = omega (arith, adds c.args.tables.now c.requires (g.K.Instrument.means c.args.instrument) (g.met.K.Instrument.lawful c.args.instrument) High c.loop-year.year c.payment-payment.result c.payment-payment.ensures (omega (arith, c.loop-year-test.true))) }
+overflow_mul-high g c = record { fits = omega (arith, adds c.args.tables.now c.requires (g.K.Instrument.means c.args.instrument) (g.met.K.Instrument.lawful c.args.instrument) High c.loop-year.year c.payment-payment.result c.payment-payment.ensures (omega (arith, c.loop-year-test.true, c.min-end.ensures))) }
 
 pub overflow_add-high : goal.overflow_add-high
-overflow_add-high g c = record { fits = omega (arith, c.loop-year.invariant.4, c.requires.ends, c.loop-year-test.true, adds c.args.tables.now c.requires (g.K.Instrument.means c.args.instrument) (g.met.K.Instrument.lawful c.args.instrument) High c.loop-year.year c.payment-payment.result c.payment-payment.ensures (omega (arith, c.loop-year-test.true))) }
+overflow_add-high g c = record { fits = omega (arith, c.loop-year.invariant.4, c.requires.ends, c.loop-year-test.true, adds c.args.tables.now c.requires (g.K.Instrument.means c.args.instrument) (g.met.K.Instrument.lawful c.args.instrument) High c.loop-year.year c.payment-payment.result c.payment-payment.ensures (omega (arith, c.loop-year-test.true, c.min-end.ensures))) }
 
 pub loop-year-preserved : goal.loop-year-preserved
 loop-year-preserved g c =
@@ -45,9 +45,9 @@ loop-year-preserved g c =
     let i = c.loop-year.invariant in
     let t = c.loop-year.year in
     let p = c.payment-payment.result in
-    let within : t ≤ T.last = omega (arith, c.loop-year-test.true) in
+    let within : t ≤ T.last = omega (arith, c.loop-year-test.true, c.min-end.ensures) in
     let more = λ (σ : Side). adds T c.requires x (g.met.K.Instrument.lawful c.args.instrument) σ t p c.payment-payment.ensures within in (
-      omega (arith, c.if-year-maturity.false, c.maturity-maturity.ensures),
+      omega (arith, c.loop-year-test.true, c.min-end.ensures, c.maturity-maturity.ensures),
       turn T x Low c.loop-year.low t p c.payment-payment.ensures c.loop-year.auto.year i.1,
       turn T x High c.loop-year.high t p c.payment-payment.ensures c.loop-year.auto.year i.2,
       omega (arith, more Low, i.3, c.loop-year.auto.year),
@@ -99,10 +99,7 @@ returns g c =
     let i = c.loop-year.invariant in
     let year = c.loop-year.year in
     let m_is = c.maturity-maturity.ensures in
-    let stopped : year ≡ min x.maturity (T.last + 1) = elim c.loop-year-test.branch [
-      | else-loop-year-test w ↦ omega (arith, w.loop-year-test.false, i.0, c.loop-year.auto.year-end)
-      | then-loop-year-test+then-year-maturity w ↦ omega (arith, w.if-year-maturity.true, i.0, c.loop-year.auto.year-end, m_is)
-    ] in
+    let stopped : year ≡ min x.maturity (T.last + 1) = omega (arith, c.loop-year-test.false, c.loop-year.auto.year-end, c.min-end.ensures, m_is, law.one_year) in
     let f = λ (σ : Side). factor_of T σ in
     let summed : (c.if-maturity-last.low ≡ worth x.payment (f Low) T.last) × (c.if-maturity-last.high ≡ worth x.payment (f High) T.last) = elim c.if-maturity-last.branch [
       | then-maturity-last w ↦
