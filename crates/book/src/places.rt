@@ -33,8 +33,8 @@ fn cut<R: Copy>(rows: &mut [R], len: usize, at: usize)
 impl<'a, R: Copy> Places<'a, R> {
     // No place is used yet, and none is changed.
     pub(crate) fn new(rows: &'a mut [R]) -> Places<'a, R>
-        ensures len_value { result.len ≡ 0 }
-        ensures rows_value { result.rows.now ≡ rows.old }
+        ensures empty { result.len ≡ 0 }
+        ensures rows { result.rows.now ≡ rows.old }
     {
         Places { rows, len: 0 }
     }
@@ -65,7 +65,7 @@ impl<'a, R: Copy> Places<'a, R> {
     // Puts a row before the one at `at`.
     pub(crate) fn enter(&mut self, at: usize, row: R)
         requires at_in_bounds { at ≤ length (take self.old.len self.old.rows.now) }
-        requires rows_in_bounds { length (take self.old.len self.old.rows.now) < length self.old.rows.now }
+        requires place_left { length (take self.old.len self.old.rows.now) < length self.old.rows.now }
         ensures len { self.new.len ≡ length (take self.old.len self.old.rows.now) + 1 }
         ensures rows { self.new.rows.now ≡ entered self.old.rows.now (length (take self.old.len self.old.rows.now)) at row }
     {

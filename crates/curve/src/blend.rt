@@ -20,8 +20,8 @@ pub(crate) const HORIZON: u8 = 120;
 impl Side {
     // A growth weighed with the ultimate one.
     fn blend(self, share: (u8, u8), growth: u64) -> u64
-        requires le_share { 1 ≤ share.1 }
-        requires share_le_share { share.0 ≤ share.1 }
+        requires nonzero { 1 ≤ share.1 }
+        requires at_most_whole { share.0 ≤ share.1 }
         requires growth_le_most { growth ≤ most }
         ensures { result ≡ blended_growth self share growth }
     {
@@ -33,8 +33,8 @@ impl Side {
 
 // One year's discounting: the low factor by the high growth, the high factor by the low growth.
 fn discounted(factors: (u64, u64), growths: (u64, u64)) -> (u64, u64)
-    requires factors_le_unit { factors.0 ≤ unit }
-    requires factors_le_unit_2 { factors.1 ≤ unit }
+    requires low_le_unit { factors.0 ≤ unit }
+    requires high_le_unit { factors.1 ≤ unit }
     requires in_range { InRange growths }
     ensures { result ≡ discounted factors growths }
 {

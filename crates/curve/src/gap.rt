@@ -98,9 +98,9 @@ impl<K: Instrument> Gap<K> {
 
     // The furthest growth of a gap of one year, straight from the greatest factor at which the worth is still below the limit.
     fn in_one_year(&self, side: Side, limit: u64) -> u64
-        requires instrument_value { (K.Instrument.means self.now.instrument).maturity ≡ self.now.last + 1 }
-        requires instrument_bound { side_of side self.now.known + (K.Instrument.means self.now.instrument).payment (K.Instrument.means self.now.instrument).maturity < limit }
-        requires limit_bound { limit < 2 ^ 63 }
+        requires one_year { (K.Instrument.means self.now.instrument).maturity ≡ self.now.last + 1 }
+        requires below_limit { side_of side self.now.known + (K.Instrument.means self.now.instrument).payment (K.Instrument.means self.now.instrument).maturity < limit }
+        requires fits { limit < 2 ^ 63 }
         ensures { result ≡ edge side (reaching side (gap_worth self.now.known self.now.start self.now.last (K.Instrument.means self.now.instrument) side) limit) }
     {
         let payment = self.instrument.payment(self.instrument.maturity());

@@ -10,8 +10,8 @@ use instruments::refusal::Refusal;
 
 // How far one figure lies above another, signed.
 pub(crate) fn above(a: u64, b: u64) -> i64
-    requires a_bound { a < 2 ^ 63 }
-    requires b_bound { b < 2 ^ 63 }
+    requires a_fits { a < 2 ^ 63 }
+    requires b_fits { b < 2 ^ 63 }
     ensures { result ≡ pos a -ℤ pos b }
 {
     a as i64 - b as i64

@@ -53,8 +53,8 @@ impl Curve {
     fn with_flow(&self, so_far: Balance, year: u8, amount: i32) -> Balance
         requires year_bound { year ≤ 120 }
         requires bounded { Bounded year so_far }
-        ensures result_value { (σ : Side) → left_of result σ ≡ left_of so_far σ +ℤ share self.now.tables year amount σ }
-        ensures bounded_2 { Bounded (year + 1) result }
+        ensures left { (σ : Side) → left_of result σ ≡ left_of so_far σ +ℤ share self.now.tables year amount σ }
+        ensures bounded_after { Bounded (year + 1) result }
     {
         let Balance { gains, losses } = so_far;
         if amount < 0 {

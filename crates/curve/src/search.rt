@@ -22,8 +22,8 @@ fn first_below<F: Falling>(f: &F, side: Side, limit: u64, guess: u64) -> u64
     requires { Falls (F.value f.now side) }
     ensures lower_bound { least ≤ result }
     ensures upper_bound { result ≤ most + 1 }
-    ensures by_index { (g : ℕ) → least ≤ g → g < result → limit ≤ F.value f.now side g }
-    ensures by_index_2 { (g : ℕ) → result ≤ g → g ≤ most → F.value f.now side g < limit }
+    ensures reached_before { (g : ℕ) → least ≤ g → g < result → limit ≤ F.value f.now side g }
+    ensures missed_from { (g : ℕ) → result ≤ g → g ≤ most → F.value f.now side g < limit }
 {
     let mut low = LEAST;
     let mut high = MOST + 1;

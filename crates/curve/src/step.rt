@@ -26,8 +26,8 @@ impl Side {
 
     // a / n, rounded down on the low side and up on the high side.
     pub(crate) fn divide(self, a: u64, n: u64) -> u64
-        requires le_n { 1 ≤ n }
-        requires n_bound { a + n ≤ 2 ^ 64 }
+        requires nonzero { 1 ≤ n }
+        requires fits { a + n ≤ 2 ^ 64 }
         ensures { result ≡ quotient self a n }
     {
         match self {

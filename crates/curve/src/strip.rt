@@ -29,10 +29,10 @@ fn spread(table: &mut [(u64, u64); 121], from: u8, pair: (u64, u64))
 
 // The factors of the years after `from` up to `to`: down steps by the high growth, up steps by the low growth.
 fn lengthen(factors: &mut [(u64, u64); 121], from: u8, to: u8, growths: (u64, u64))
-    requires to_bound { to ≤ 120 }
-    requires from_bound { from ≤ 120 }
+    requires to_in_table { to ≤ 120 }
+    requires from_in_table { from ≤ 120 }
     requires in_range { InRange growths }
-    requires t_bound { (σ : Side) (t : ℕ) → t ≤ from → side_of σ (entry factors.old t) ≤ unit }
+    requires factors_le_unit { (σ : Side) (t : ℕ) → t ≤ from → side_of σ (entry factors.old t) ≤ unit }
     ensures kept { (t : ℕ) → t ≤ from → entry factors.new t ≡ entry factors.old t }
     ensures long { length factors.new ≡ 121 }
     ensures later { (t : ℕ) → to < t → entry factors.new t ≡ entry factors.old t }

@@ -16,7 +16,7 @@ loop-year-init c =
       (λ t h i. entry start t),
       (λ t h i. entry start t),
       (λ t h i. (kept Low t (omega arith) i, kept High t (omega arith) i)),
-      (λ σ t h. c.requires.t_bound σ t (omega arith)),
+      (λ σ t h. c.requires.factors_le_unit σ t (omega arith)),
       c.told-factors,
     )
 
@@ -40,7 +40,7 @@ loop-year-preserved c =
     let high = c.discount-in-loop-year.result in
     let from = c.args.from in
     let late : from < year = omega (arith, c.loop-year.auto.year) in
-    let within : year < length table = omega (arith, c.loop-year-test.true, c.requires.to_bound, i.4) in
+    let within : year < length table = omega (arith, c.loop-year-test.true, c.requires.to_in_table, i.4) in
     let same : entry (set table year (low, high)) year ≡ (low, high) = get_or-set_same table year (low, high) (0, 0) within in
     let others : (t : ℕ) → t ≢ year → entry (set table year (low, high)) t ≡ entry table t = λ t ne. get_or-set_other table year t (low, high) (0, 0) ne in
     let before = i.2 (year - 1) (omega arith) in

@@ -31,7 +31,7 @@ enter-requires g c =
     let read = g.K.Instrument.read in
     record {
       at_in_bounds = omega (arith, c.find-at.ensures.place, rank_within c.maturity-maturity.result (quotations_of read b), used_is read (rows_of b) b.places.len);
-      rows_in_bounds = omega (arith, c.if-used-usable.false, c.usable.ensures, c.used.ensures.value);
+      place_left = omega (arith, c.if-used-usable.false, c.usable.ensures, c.used.ensures.value);
     }
 
 pub returns : goal.returns

@@ -48,7 +48,7 @@ discounted-factor-requires c =
     let before = c.loop-year.invariant.3 (t - 1) (omega (arith, c.if-year-known.true)) in
     let P : ℕ × ℕ → Type 0 = λ p. (p.0 ≤ unit) × (p.1 ≤ unit) in
     let small = subst P (sym before) (factor_unit b T o s within Low (t - 1) (omega arith), factor_unit b T o s within High (t - 1) (omega arith)) in
-    (record { factors_le_unit = small.0; factors_le_unit_2 = small.1; in_range = subst InRange (sym c.growths-blended.ensures) (growths_range b T o t (omega arith)) })
+    (record { low_le_unit = small.0; high_le_unit = small.1; in_range = subst InRange (sym c.growths-blended.ensures) (growths_range b T o t (omega arith)) })
 
 pub invariant_of-result : goal.invariant_of-result
 invariant_of-result c =

@@ -47,7 +47,7 @@ loop-year-preserved c =
           let fits : SFits w32 z = search rules in
           let more = w.with_flow-balance.ensures in
           subst (Summed T xs (i + 1)) (sym w.balance-is)
-          (summed_more T xs i b so (Some z) (omega arith) w.in-Some.is w.with_flow-balance.result (λ σ. more.result_value σ ∙ ap (λ a. left_of b σ +ℤ share T i a σ) (to_z-of_z w32 z fits)) more.bounded_2)
+          (summed_more T xs i b so (Some z) (omega arith) w.in-Some.is w.with_flow-balance.result (λ σ. more.left σ ∙ ap (λ a. left_of b σ +ℤ share T i a σ) (to_z-of_z w32 z fits)) more.bounded_after)
       | in_default w ↦
           subst (Summed T xs (i + 1)) (sym w.balance-is)
           (summed_more T xs i b so None (omega arith) w.in_default.is b (λ σ. omega (arith, ints)) (λ σ. (omega (arith, (so.1 σ).0), omega (arith, (so.1 σ).1))))

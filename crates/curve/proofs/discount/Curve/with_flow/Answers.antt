@@ -25,8 +25,8 @@ returns-then-amount-lt0 c =
     let p = c.portion-low.result in
     let size : c.unsigned_abs.result ≡ nat_abs z = c.unsigned_abs.ensures.value ∙ ap nat_abs (to_z-of_z w32 z c.ranges.amount) in
     let negative : z <ℤ pos 0 = grind (arith, ints) in (record {
-      result_value = share_lost T c.args.year c.args.so_far p z (c.portion-low.ensures.value ∙ ap (λ a. pair (portion T c.args.year a)) size) negative;
-      bounded_2 = lost_within c.args.year c.args.so_far p c.requires.bounded c.portion-low.ensures.small;
+      left = share_lost T c.args.year c.args.so_far p z (c.portion-low.ensures.value ∙ ap (λ a. pair (portion T c.args.year a)) size) negative;
+      bounded_after = lost_within c.args.year c.args.so_far p c.requires.bounded c.portion-low.ensures.small;
     })
 
 pub returns-else-amount-lt0 : goal.returns-else-amount-lt0
@@ -36,6 +36,6 @@ returns-else-amount-lt0 c =
     let p = c.portion-low-else-amount-lt0.result in
     let size : nat_abs (to_z w32 (of_z w32 z)) ≡ nat_abs z = ap nat_abs (to_z-of_z w32 z c.ranges.amount) in
     let positive : pos 0 ≤ℤ z = grind (arith, ints) in (record {
-      result_value = share_gained T c.args.year c.args.so_far p z (c.portion-low-else-amount-lt0.ensures.value ∙ ap (λ a. pair (portion T c.args.year a)) size) positive;
-      bounded_2 = gained_within c.args.year c.args.so_far p c.requires.bounded c.portion-low-else-amount-lt0.ensures.small;
+      left = share_gained T c.args.year c.args.so_far p z (c.portion-low-else-amount-lt0.ensures.value ∙ ap (λ a. pair (portion T c.args.year a)) size) positive;
+      bounded_after = gained_within c.args.year c.args.so_far p c.requires.bounded c.portion-low-else-amount-lt0.ensures.small;
     })

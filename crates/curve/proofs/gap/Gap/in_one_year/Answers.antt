@@ -21,7 +21,7 @@ returns-in-Low g c =
     let law = g.met.K.Instrument.lawful x.instrument in
     within σ Low c.in-Low.is c.clamp.result c.divide.result c.args.limit c.of.result (side_of σ x.known) c.of-start.result (side_of σ x.start) c.payment-payment.result (means.payment means.maturity)
     c.of.ensures c.of-start.ensures (c.payment-payment.ensures ∙ ap means.payment c.maturity.ensures) c.divide.ensures c.clamp.ensures
-    ∙ sym (one_year_edge (side_of σ x.known) (side_of σ x.start) x.last means.payment means.maturity c.requires.instrument_value law.pays c.args.limit c.requires.instrument_bound σ)
+    ∙ sym (one_year_edge (side_of σ x.known) (side_of σ x.start) x.last means.payment means.maturity c.requires.one_year law.pays c.args.limit c.requires.below_limit σ)
 
 pub returns-in-High : goal.returns-in-High
 returns-in-High g c =
@@ -31,4 +31,4 @@ returns-in-High g c =
     let law = g.met.K.Instrument.lawful x.instrument in
     within σ High c.in-High.is c.clamp-in-High.result c.divide-in-High.result c.args.limit c.of.result (side_of σ x.known) c.of-start.result (side_of σ x.start) c.payment-payment.result (means.payment means.maturity)
     c.of.ensures c.of-start.ensures (c.payment-payment.ensures ∙ ap means.payment c.maturity.ensures) c.divide-in-High.ensures c.clamp-in-High.ensures
-    ∙ sym (one_year_edge (side_of σ x.known) (side_of σ x.start) x.last means.payment means.maturity c.requires.instrument_value law.pays c.args.limit c.requires.instrument_bound σ)
+    ∙ sym (one_year_edge (side_of σ x.known) (side_of σ x.start) x.last means.payment means.maturity c.requires.one_year law.pays c.args.limit c.requires.below_limit σ)

@@ -3,7 +3,7 @@ use Rattle.curve.specs.declared.side.Side.TheVariants.{Low, High}
 use Rattle.curve.proofs.reserve.Balance.left.Goals as goal
 
 pub above-requires : goal.above-requires
-above-requires c = (record { a_bound = omega (arith, c.requires Low); b_bound = omega (arith, c.requires High) })
+above-requires c = (record { a_fits = omega (arith, c.requires Low); b_fits = omega (arith, c.requires High) })
 
 pub above-requires-2 : goal.above-requires-2
-above-requires-2 c = (record { a_bound = omega (arith, c.requires High); b_bound = omega (arith, c.requires Low) })
+above-requires-2 c = (record { a_fits = omega (arith, c.requires High); b_fits = omega (arith, c.requires Low) })

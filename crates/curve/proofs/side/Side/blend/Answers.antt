@@ -6,7 +6,7 @@ pub overflow_add-whole : goal.overflow_add-whole
 overflow_add-whole c = record { fits = omega (arith, mul-le-mul_left (c.args.share.1 - c.args.share.0) c.requires.growth_le_most) }
 
 pub divide-requires : goal.divide-requires
-divide-requires c = (record { le_n = c.requires.le_share; n_bound = omega (arith, mul-le-mul_left (c.args.share.1 - c.args.share.0) c.requires.growth_le_most) })
+divide-requires c = (record { nonzero = c.requires.nonzero; fits = omega (arith, mul-le-mul_left (c.args.share.1 - c.args.share.0) c.requires.growth_le_most) })
 
 pub returns : goal.returns
 unfolding blended_growth

@@ -28,10 +28,10 @@ lengthen-requires g c =
     let n = c.new-gap.ensures in
     let r = c.new-gap.result in
     let a = accepted_alike T c.requires x law r.known r.start r.last (g.K.Instrument.means r.instrument) (ap g.K.Instrument.means n.same) n.year n.begun n.summed c.in_ok-growths.growths c.in_ok-growths.ensures in (record {
-      to_bound = omega (arith, c.maturity-maturity.ensures, (g.met.K.Instrument.lawful r.instrument).ninety_years);
-      from_bound = c.requires.ends;
+      to_in_table = omega (arith, c.maturity-maturity.ensures, (g.met.K.Instrument.lawful r.instrument).ninety_years);
+      from_in_table = c.requires.ends;
       in_range = growths_range T c.requires x law c.in_ok-growths.growths a;
-      t_bound = (λ σ t h. factor_small T c.requires σ t (omega (arith, c.requires.ends)));
+      factors_le_unit = (λ σ t h. factor_small T c.requires σ t (omega (arith, c.requires.ends)));
     })
 
 -- the factors at maturity before they are tightened
