@@ -2,7 +2,7 @@
 ghost use Rattle.std.specs.Prelude.{◌≡◌};
 ghost use Rattle.instruments.specs.Bonds.{bond_row, bond_means, bond_read, bond_making, bond_body};
 ghost use Rattle.instruments.specs.Law.{ok_map};
-ghost use Rattle.std.proofs.Common.{rules, arith};
+ghost use Rattle.std.proofs.Common.{rules};
 
 use crate::bond::{Bond, BondRow};
 use crate::class::Class;
@@ -56,11 +56,11 @@ impl Instrument for Bond {
 
     ghost making = { bond_body };
 
-    ghost lawful = { first_of (Prim.search rules, Prim.grind (arith, Self.row.coded.inj)) };
+    ghost lawful = { Prim.search rules };
 
-    ghost rows = { first_of (Prim.search rules, Prim.grind (arith, Self.row.coded.inj)) };
+    ghost rows = { Prim.search rules };
 
-    ghost back = { first_of (Prim.search rules, Prim.grind (arith, Self.row.coded.inj)) };
+    ghost back = { Prim.search rules };
 
     fn frame_length() -> usize {
         Self::LENGTH

@@ -3,7 +3,7 @@ ghost use Rattle.std.specs.Prelude.{◌≡◌};
 ghost use Rattle.instruments.specs.Deductions.{adjusted, taken};
 ghost use Rattle.instruments.specs.Law.{ok_map};
 ghost use Rattle.instruments.specs.Swaps.{swap_row, swap_means, swap_read, swap_making, swap_body};
-ghost use Rattle.std.proofs.Common.{rules, arith};
+ghost use Rattle.std.proofs.Common.{rules};
 
 use crate::class::Class;
 use crate::kind::Instrument;
@@ -77,11 +77,11 @@ impl Instrument for Swap {
 
     ghost making = { swap_body };
 
-    ghost lawful = { first_of (Prim.search rules, Prim.grind (arith, Self.row.coded.inj)) };
+    ghost lawful = { Prim.search rules };
 
-    ghost rows = { first_of (Prim.search rules, Prim.grind (arith, Self.row.coded.inj)) };
+    ghost rows = { Prim.search rules };
 
-    ghost back = { first_of (Prim.search rules, Prim.grind (arith, Self.row.coded.inj)) };
+    ghost back = { Prim.search rules };
 
     fn frame_length() -> usize {
         Self::LENGTH

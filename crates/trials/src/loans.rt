@@ -1,7 +1,7 @@
 // What loans pay, and how they are read.
 ghost use Rattle.std.specs.Prelude.{◌≡◌};
 ghost use Rattle.trials.specs.Loans.{instalment, loan_row, loan_means, loan_read, loan_making};
-ghost use Rattle.std.proofs.Common.{rules, arith};
+ghost use Rattle.std.proofs.Common.{rules};
 
 use crate::loan::{Loan, LoanRow};
 use instruments::class::Class;
@@ -39,11 +39,11 @@ impl Instrument for Loan {
 
     ghost making = { loan_making };
 
-    ghost lawful = { first_of (Prim.search rules, Prim.grind (arith, Self.row.coded.inj)) };
+    ghost lawful = { Prim.search rules };
 
-    ghost rows = { first_of (Prim.search rules, Prim.grind (arith, Self.row.coded.inj)) };
+    ghost rows = { Prim.search rules };
 
-    ghost back = { first_of (Prim.search rules, Prim.grind (arith, Self.row.coded.inj)) };
+    ghost back = { Prim.search rules };
 
     fn frame_length() -> usize {
         Self::LENGTH
