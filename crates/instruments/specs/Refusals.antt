@@ -1,5 +1,6 @@
 -- Each refusal's number, and the year that it reports.
-use Rattle.std.specs.Prelude.{ℕ}
+use Rattle.std.specs.Prelude.{ℕ, List, ◌++◌, codes}
+use Rattle.std.specs.Fmt.{decimal}
 use Rattle.instruments.specs.declared.refusal.Refusal.{Refusal}
 use Rattle.instruments.specs.declared.refusal.Refusal.TheVariants.{Malformed, UnknownLetter, OutOfTurn, WrongLength, UnknownKind, BadCode, BadMaturity, BadQuotation, BadPrice, AfterConvergence, MaturityHeld, NoPlaceLeft, NoneHeld, BadYear, BadAmount, FlowHeld, NoFlow, TooShort, ForwardBelowRange, ForwardAboveRange, ForwardTooWide, NotSettled, OutsideHorizon}
 
@@ -36,3 +37,7 @@ reported (ForwardAboveRange y) = report 20 y
 reported (ForwardTooWide y) = report 21 y
 reported NotSettled = report 22 0
 reported (OutsideHorizon y) = report 23 y
+
+-- a refusal as text: its number and its year, in decimal
+abbrev pub refusal_text : Refusal → List ℕ
+refusal_text r = codes "number " ++ decimal (reported r).number ++ codes ", year " ++ decimal (reported r).year

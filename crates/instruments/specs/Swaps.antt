@@ -1,7 +1,6 @@
 -- What a swap is made from, and what it means.
 use Rattle.std.specs.Prelude.{ℕ, List, length, ℤ, pos, Ok, Result, ◌==◌, slice_index}
-use Rattle.std.specs.Int.{w32}
-use Rattle.std.proofs.Common.{to_z}
+use Rattle.std.specs.Int.{w32, cast_signed}
 use Rattle.instruments.specs.Deductions.{adjusted}
 use Rattle.instruments.specs.Frames.{big_endian}
 use Rattle.instruments.specs.Law.{Meaning}
@@ -42,4 +41,4 @@ swap_making maturity quotation class =
 -- the same from the body of a frame: a byte for the maturity, and four for the signed quotation
 abbrev pub swap_body : Class → List ℕ → Result SwapRow Refusal
 swap_body class body =
-    if_kept (length body == 5) WrongLength (swap_making (slice_index body 0) (to_z w32 (big_endian body 1)) class)
+    if_kept (length body == 5) WrongLength (swap_making (slice_index body 0) (cast_signed w32 (big_endian body 1)) class)

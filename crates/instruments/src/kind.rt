@@ -53,6 +53,7 @@ pub trait Instrument: Copy {
     fn make(class: Class, body: &[u8]) -> Result<Self, Refusal>
         ensures { ok_map row result ≡ making class body.now };
 
+    // A kind writes each law with its proof: the check finds the proof, but refuses a kind that leaves a law out.
     ghost lawful: { (x : Self) → Lawful (means x) };
 
     ghost rows: { (r : Self.Row) → Lawful (read r) };

@@ -2,14 +2,11 @@
 #![tactic(auto)]
 
 pub mod bond;
-pub mod bonds;
 pub mod class;
 pub mod kind;
 pub mod level;
 pub mod limits;
 pub mod refusal;
-pub mod report;
 pub mod swap;
-pub mod swaps;
 #[cfg(test)]
 mod tests;

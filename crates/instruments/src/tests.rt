@@ -7,12 +7,9 @@ use std::test::Fail;
 
 const PENSION: Class = Class::OccupationalPension;
 
-// The number and the year of a refusal, and zeros where nothing is refused.
-fn refused<T: Drop>(made: Result<T, Refusal>) -> (u8, u8) {
-    match made {
-        Ok(_) => (0, 0),
-        Err(refusal) => (refusal.number(), refusal.year()),
-    }
+// The number and the year of a refusal, if there is one.
+fn refused<T: Drop>(made: Result<T, Refusal>) -> Option<(u8, u8)> {
+    made.err().map(|refusal| (refusal.number(), refusal.year()))
 }
 
 #[test]
@@ -30,40 +27,39 @@ fn deductions(rt: HostRuntime) -> Result<(), Fail> {
 
 #[test]
 fn swap_limits(rt: HostRuntime) {
-    assert_eq!(rt; refused(Swap::new(0, -1, PENSION)), (7, 0));
-    assert_eq!(rt; refused(Swap::new(91, 0, PENSION)), (7, 91));
-    assert_eq!(rt; refused(Swap::new(90, -1, PENSION)), (8, 90));
-    assert_eq!(rt; refused(Swap::new(1, 100_001, PENSION)), (8, 1));
-    assert_eq!(rt; refused(Swap::new(90, 100_000, PENSION)), (0, 0));
+    assert_eq!(rt; refused(Swap::new(0, -1, PENSION)), Some((7, 0)));
+    assert_eq!(rt; refused(Swap::new(91, 0, PENSION)), Some((7, 91)));
+    assert_eq!(rt; refused(Swap::new(90, -1, PENSION)), Some((8, 90)));
+    assert_eq!(rt; refused(Swap::new(1, 100_001, PENSION)), Some((8, 1)));
+    assert_eq!(rt; refused(Swap::new(90, 100_000, PENSION)), None);
+}
+
+#[test]
+fn refusals_as_text(rt: HostRuntime) -> Result<(), Fail> {
+    let text = format!(in rt.alloc(); "{}", Refusal::TooShort(9))?;
+    assert_eq!(rt; text.as_str(), "number 18, year 9");
+    let text = format!(in rt.alloc(); "{}", Refusal::NotSettled)?;
+    assert_eq!(rt; text.as_str(), "number 22, year 0");
+    Ok(())
 }
 
 #[test]
 fn bond_limits(rt: HostRuntime) {
-    assert_eq!(rt; refused(Bond::new(91, 100_001, 0)), (7, 91));
-    assert_eq!(rt; refused(Bond::new(2, 100_001, 0)), (8, 2));
-    assert_eq!(rt; refused(Bond::new(2, 0, 0)), (9, 2));
-    assert_eq!(rt; refused(Bond::new(3, 0, 2_000_000_001)), (9, 3));
-    assert_eq!(rt; refused(Bond::new(90, 100_000, 2_000_000_000)), (0, 0));
+    assert_eq!(rt; refused(Bond::new(91, 100_001, 0)), Some((7, 91)));
+    assert_eq!(rt; refused(Bond::new(2, 100_001, 0)), Some((8, 2)));
+    assert_eq!(rt; refused(Bond::new(2, 0, 0)), Some((9, 2)));
+    assert_eq!(rt; refused(Bond::new(3, 0, 2_000_000_001)), Some((9, 3)));
+    assert_eq!(rt; refused(Bond::new(90, 100_000, 2_000_000_000)), None);
 }
 
 #[test]
 fn payments(rt: HostRuntime) -> Result<(), Fail> {
     let swap = Swap::new(2, 13_500, PENSION)?;
-    let paid = [
-        swap.payment(0),
-        swap.payment(1),
-        swap.payment(2),
-        swap.payment(3),
-    ];
+    let paid = [0, 1, 2, 3].map(|year| swap.payment(year));
     assert_eq!(rt; paid, [0, 10_000, 1_010_000, 0]);
     assert_eq!(rt; swap.price(), 1_000_000_000);
     let bond = Bond::new(2, 40_000, 990_000_000)?;
-    let paid = [
-        bond.payment(0),
-        bond.payment(1),
-        bond.payment(2),
-        bond.payment(3),
-    ];
+    let paid = [0, 1, 2, 3].map(|year| bond.payment(year));
     assert_eq!(rt; paid, [0, 40_000, 1_040_000, 0]);
     assert_eq!(rt; bond.price(), 990_000_000);
     Ok(())
@@ -95,9 +91,9 @@ fn frames(rt: HostRuntime) -> Result<(), Fail> {
     assert_eq!(rt; swap.quotation(), 3_500);
     assert_eq!(rt;
         refused(Swap::make(PENSION, &[9, 0xff, 0xff, 0xff, 0xff])),
-        (8, 9)
+        Some((8, 9))
     );
-    assert_eq!(rt; refused(Swap::make(PENSION, &[1, 0, 0, 0])), (4, 0));
+    assert_eq!(rt; refused(Swap::make(PENSION, &[1, 0, 0, 0])), Some((4, 0)));
     let bond = Bond::make(PENSION, &[1, 0, 0, 0, 0, 0x2f, 0xaf, 0x08, 0])?;
     let row = BondRow {
         maturity: 1,
@@ -105,6 +101,6 @@ fn frames(rt: HostRuntime) -> Result<(), Fail> {
         price: 800_000_000,
     };
     assert_eq!(rt; bond.to_row(), row);
-    assert_eq!(rt; refused(Bond::make(PENSION, &[])), (4, 0));
+    assert_eq!(rt; refused(Bond::make(PENSION, &[])), Some((4, 0)));
     Ok(())
 }
