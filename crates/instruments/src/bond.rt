@@ -20,7 +20,7 @@ pub struct Bond {
 }
 
 // The fields of a bond, bound by no limit.
-#[derive(Clone, Copy, PartialEq, Eq, Debug)]
+#[derive(Clone, Copy, Default, PartialEq, Eq, Debug)]
 pub struct BondRow {
     pub maturity: u8,
     pub coupon: u32,

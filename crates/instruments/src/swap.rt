@@ -29,6 +29,22 @@ pub struct SwapRow {
     pub class: Class,
 }
 
+// By hand, since no class is the one that a book has where none is given.
+impl Default for SwapRow {
+    ghost use Rattle.instruments.specs.Swaps.{swap_fields};
+    ghost use Rattle.instruments.specs.declared.class.Class.TheVariants.{OccupationalPension};
+
+    ghost is_default = { λ row. row ≡ swap_fields 0 (pos 0) OccupationalPension };
+
+    fn default() -> SwapRow {
+        SwapRow {
+            maturity: 0,
+            quotation: 0,
+            class: Class::OccupationalPension,
+        }
+    }
+}
+
 impl Swap {
     ghost use Rattle.instruments.specs.Deductions.{adjusted, taken};
     ghost use Rattle.instruments.specs.Law.{ok_map};

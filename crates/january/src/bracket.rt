@@ -1,7 +1,7 @@
 // Two figures, low before high, between which the exact one lies.
 ghost use Rattle.std.specs.Prelude.{◌≡◌, ◌-ℤ◌, unsigned_abs};
 
-use crate::figure::{Ore, Units};
+use crate::figure::Units;
 use std::fmt;
 
 #[derive(Clone, Copy)]
@@ -10,32 +10,24 @@ pub struct Bracket<T> {
     high: T,
 }
 
-impl Bracket<Units> {
-    pub fn of_units(pair: (i64, i64)) -> Bracket<Units>
-        ensures { (result.low.0, result.high.0) ≡ pair }
-    {
+impl<T: From<i64>> From<(i64, i64)> for Bracket<T> {
+    ghost from_gives = { λ pair bracket. T.from_gives pair.0 bracket.low × T.from_gives pair.1 bracket.high };
+
+    fn from(pair: (i64, i64)) -> Bracket<T> {
+        let (low, high) = pair;
         Bracket {
-            low: Units(pair.0),
-            high: Units(pair.1),
+            low: T::from(low),
+            high: T::from(high),
         }
     }
+}
 
+impl Bracket<Units> {
     // How many units the two figures are apart.
     pub fn apart(&self) -> u64
         ensures { result ≡ unsigned_abs (self.now.low.0 -ℤ self.now.high.0) }
     {
         self.low.0.abs_diff(self.high.0)
-    }
-}
-
-impl Bracket<Ore> {
-    pub fn of_ore(pair: (i64, i64)) -> Bracket<Ore>
-        ensures { (result.low.0, result.high.0) ≡ pair }
-    {
-        Bracket {
-            low: Ore(pair.0),
-            high: Ore(pair.1),
-        }
     }
 }
 

@@ -1,4 +1,6 @@
 // Figures as text, each on the width that it is given.
+ghost use Rattle.std.specs.Prelude.{◌≡◌};
+
 use std::fmt;
 use std::fmt::InlineText;
 
@@ -25,19 +27,38 @@ pub struct Ore(pub i64);
 #[derive(Clone, Copy)]
 struct Grouped(u64);
 
-// What stands before the digits of a number.
-fn sign(n: i64) -> &'static str {
-    if n < 0 { "-" } else { "" }
+impl From<i64> for Units {
+    ghost from_gives = { λ number units. units.0 ≡ number };
+
+    fn from(number: i64) -> Units {
+        Units(number)
+    }
+}
+
+impl From<i64> for Ore {
+    ghost from_gives = { λ number ore. ore.0 ≡ number };
+
+    fn from(number: i64) -> Ore {
+        Ore(number)
+    }
+}
+
+// Writes a figure on the width that is given: its size, after a sign where it is below 0.
+fn write_signed<W: fmt::Write, D: fmt::Display + Drop>(
+    f: &mut fmt::Formatter<W>,
+    number: i64,
+    size: D,
+) -> fmt::Result {
+    let size = InlineText::<ROOM>::of(size);
+    f.pad_integral(number >= 0, "", size.as_str())
 }
 
 impl fmt::Display for Units {
     fn fmt<W: fmt::Write>(&self, f: &mut fmt::Formatter<W>) -> fmt::Result {
-        let sign = sign(self.0);
         let size = self.0.unsigned_abs();
         let whole = size / 1_000_000_000;
         let part = size % 1_000_000_000;
-        let text = InlineText::<ROOM>::of(format_args!("{sign}{whole}.{part:09}"));
-        f.pad(text.as_str())
+        write_signed(f, self.0, format_args!("{whole}.{part:09}"))
     }
 }
 
@@ -66,20 +87,15 @@ impl fmt::Display for Grouped {
 
 impl fmt::Display for Kronor {
     fn fmt<W: fmt::Write>(&self, f: &mut fmt::Formatter<W>) -> fmt::Result {
-        let sign = sign(self.0);
-        let size = Grouped(self.0.unsigned_abs());
-        let text = InlineText::<ROOM>::of(format_args!("{sign}{size}"));
-        f.pad(text.as_str())
+        write_signed(f, self.0, Grouped(self.0.unsigned_abs()))
     }
 }
 
 impl fmt::Display for Ore {
     fn fmt<W: fmt::Write>(&self, f: &mut fmt::Formatter<W>) -> fmt::Result {
-        let sign = sign(self.0);
         let size = self.0.unsigned_abs();
         let kronor = Grouped(size / 100);
         let part = size % 100;
-        let text = InlineText::<ROOM>::of(format_args!("{sign}{kronor}.{part:02}"));
-        f.pad(text.as_str())
+        write_signed(f, self.0, format_args!("{kronor}.{part:02}"))
     }
 }

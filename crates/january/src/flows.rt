@@ -1,4 +1,4 @@
-// The cash flows and the reserve for them.
+// The cash flows, and what each adds to the reserve.
 ghost use Rattle.std.specs.Prelude.{◌≡◌, ◌≤◌, replicate, Some, None, slice_set};
 ghost use Rattle.curve.specs.Curves.{tables_of};
 ghost use Rattle.curve.specs.Reserve.{asked_reserve};
@@ -13,13 +13,12 @@ use instruments::refusal::Refusal;
 use instruments::swap::Swap;
 
 // Posts each flow to the book.
-pub fn post(rt: &HostRuntime, book: &mut Book<'_, Swap>) -> Result<(), Stop> {
-    let mut year: u8 = 0;
-    for amount in FLOWS {
-        year = year.saturating_add(1);
+pub fn post(rt: &impl Print, book: &mut Book<'_, Swap>) -> Result<(), Stop> {
+    for (amount, year) in FLOWS.into_iter().zip(1..) {
         book.post(year, amount)?;
     }
-    println!(rt; "Posted: {year} flows, of the years 1 to {year}")?;
+    let last = FLOWS.len();
+    println!(rt; "Posted: {last} flows, of the years 1 to {last}")?;
     Ok(())
 }
 
@@ -33,32 +32,14 @@ fn share(curve: &Curve, year: usize, amount: i32) -> Result<(i64, i64), Refusal>
     curve.reserve(&alone)
 }
 
-fn print_share(rt: &HostRuntime, curve: &Curve, year: usize, amount: i32) -> Result<(), Stop>
-    requires { year ≤ 120 }
-{
-    let worth = Bracket::of_ore(share(curve, year, amount)?);
-    let amount = Kronor(i64::from(amount));
-    println!(rt; "{year:>4}  {amount:>12}  {worth:>14}")?;
-    Ok(())
-}
-
-pub fn print_shares(rt: &HostRuntime, curve: &Curve) -> Result<(), Stop> {
+pub fn print_shares(rt: &impl Print, curve: &Curve) -> Result<(), Stop> {
     println!(rt; "\n5. Cash flows, and what each adds to the reserve\n")?;
     println!(rt; "year        amount       share low      share high")?;
-    for at in 0..FLOWS.len() {
-        print_share(rt, curve, at + 1, FLOWS[at])?;
+    for (at, amount) in FLOWS.iter().enumerate() {
+        let year = at + 1;
+        let worth = Bracket::<Ore>::from(share(curve, year, *amount)?);
+        let amount = Kronor(i64::from(*amount));
+        println!(rt; "{year:>4}  {amount:>12}  {worth:>14}")?;
     }
-    Ok(())
-}
-
-pub fn print_reserve(rt: &HostRuntime, book: &Book<'_, Swap>) -> Result<(), Stop> {
-    let (low, high) = book.reserve()?;
-    let least = Ore(low);
-    let most = Ore(high);
-    let apart = Ore(high.saturating_sub(low));
-    println!(rt; "\n6. Reserve\n")?;
-    println!(rt; "low    {least:>14}")?;
-    println!(rt; "high   {most:>14}")?;
-    println!(rt; "apart  {apart:>14}")?;
     Ok(())
 }

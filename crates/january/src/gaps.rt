@@ -1,12 +1,13 @@
 // The gaps of the market curve. One forward holds in all years of a gap, which ends at the maturity of a quotation.
 use crate::bracket::Bracket;
+use crate::figure::Units;
 use crate::stop::Stop;
 use curve::discount::Curve;
 use instruments::swap::SwapRow;
 
-fn print_gap(rt: &HostRuntime, market: &Curve, first: u8, last: u8) -> Result<(), Stop> {
-    let forward = Bracket::of_units(market.forward(last)?);
-    let factor = Bracket::of_units(market.factor(last)?);
+fn print_gap(rt: &impl Print, market: &Curve, first: u8, last: u8) -> Result<(), Stop> {
+    let forward = Bracket::<Units>::from(market.forward(last)?);
+    let factor = Bracket::<Units>::from(market.factor(last)?);
     let forward_apart = forward.apart();
     let factor_apart = factor.apart();
     print!(rt; "{first:>2} to {last:>2}  {forward:>12}  {forward_apart:>5}")?;
@@ -14,15 +15,15 @@ fn print_gap(rt: &HostRuntime, market: &Curve, first: u8, last: u8) -> Result<()
     Ok(())
 }
 
-pub fn print_gaps(rt: &HostRuntime, market: &Curve, rows: &[SwapRow]) -> Result<(), Stop> {
+pub fn print_gaps(rt: &impl Print, market: &Curve, rows: &[SwapRow]) -> Result<(), Stop> {
     println!(rt;
         "\n2. Market curve of the same quotations by gap: forwards, factors at maturity, and how many units low and high are apart\n"
     )?;
     println!(rt; "   years   forward low  forward high  apart    factor low   factor high  apart")?;
-    let mut known: u8 = 0;
+    let mut first: u8 = 1;
     for row in rows {
-        print_gap(rt, market, known.saturating_add(1), row.maturity)?;
-        known = row.maturity;
+        print_gap(rt, market, first, row.maturity)?;
+        first = row.maturity.saturating_add(1);
     }
     Ok(())
 }

@@ -5,16 +5,10 @@ use crate::stop::Stop;
 use book::volume::Book;
 use instruments::kind::Instrument;
 use instruments::swap::{Swap, SwapRow};
+use std::alloc::Global;
 use std::io;
 
-// What a place has before the book uses it.
-pub const UNUSED: SwapRow = SwapRow {
-    maturity: 0,
-    quotation: 0,
-    class: CLASS,
-};
-
-fn print_quotation(rt: &HostRuntime, swap: &Swap) -> io::Result<()> {
+fn print_quotation(rt: &impl Print, swap: &Swap) -> io::Result<()> {
     let maturity = swap.maturity();
     let quotation = Ppm(swap.quotation().unsigned_abs());
     let taken = Ppm(swap.taken());
@@ -23,10 +17,14 @@ fn print_quotation(rt: &HostRuntime, swap: &Swap) -> io::Result<()> {
 }
 
 // Enters each quotation in the book, and gives the rows of all.
-pub fn enter(rt: &HostRuntime, book: &mut Book<'_, Swap>) -> Result<Vec<SwapRow>, Stop> {
+pub fn enter(
+    rt: &impl Print,
+    heap: Global,
+    book: &mut Book<'_, Swap>,
+) -> Result<Vec<SwapRow>, Stop> {
     println!(rt; "\n1. Swap quotations, less the deduction for occupational pension\n")?;
     println!(rt; "maturity   quotation   deduction    adjusted")?;
-    let mut rows = Vec::new(rt.alloc());
+    let mut rows = Vec::new(heap);
     for (maturity, quotation) in QUOTATIONS {
         let swap = Swap::new(maturity, quotation, CLASS)?;
         book.enter(swap)?;
