@@ -4,79 +4,72 @@
 use frames::respond::respond;
 use std::{fs, io};
 
-// An input and its answers.
+// An input and its answers, in the files of one stem.
+#[derive(Clone, Copy)]
 struct Group {
     name: &'static str,
-    frames: &'static str,
-    answers: &'static str,
+    stem: &'static str,
 }
 
 const GROUPS: [Group; 9] = [
     Group {
         name: "a whole run",
-        frames: "run.frames",
-        answers: "run.answers",
+        stem: "run",
     },
     Group {
         name: "limits of quotations and maturities",
-        frames: "limits.frames",
-        answers: "limits.answers",
+        stem: "limits",
     },
     Group {
         name: "base 1",
-        frames: "base-1.frames",
-        answers: "base-1.answers",
+        stem: "base-1",
     },
     Group {
         name: "base 2",
-        frames: "base-2.frames",
-        answers: "base-2.answers",
+        stem: "base-2",
     },
     Group {
         name: "base 3",
-        frames: "base-3.frames",
-        answers: "base-3.answers",
+        stem: "base-3",
     },
     Group {
         name: "base 4",
-        frames: "base-4.frames",
-        answers: "base-4.answers",
+        stem: "base-4",
     },
     Group {
         name: "base 5",
-        frames: "base-5.frames",
-        answers: "base-5.answers",
+        stem: "base-5",
     },
     Group {
         name: "base 6",
-        frames: "base-6.frames",
-        answers: "base-6.answers",
+        stem: "base-6",
     },
     Group {
         name: "january",
-        frames: "january.frames",
-        answers: "january.answers",
+        stem: "january",
     },
 ];
 
-// Whether an input is answered as stored.
-fn agrees(rt: &HostRuntime, group: &Group) -> io::Result<bool> {
-    let input = fs::read(rt, group.frames)?;
-    let expected = fs::read(rt, group.answers)?;
-    let given = respond(rt.alloc(), input.as_slice())?;
+// Whether the input of a stem is answered as stored.
+fn agrees(rt: &HostRuntime, stem: &str) -> io::Result<bool> {
+    let heap = rt.alloc();
+    let input = fs::read(rt, &format!(in heap; "{stem}.frames")?)?;
+    let expected = fs::read(rt, &format!(in heap; "{stem}.answers")?)?;
+    let given = respond(heap, input.as_slice())?;
     Ok(given.as_slice() == expected.as_slice())
 }
 
 fn main(rt: HostRuntime) -> io::Result<()> {
+    // Counted as it goes: a fold whose closure prints, and may fail, is no plainer.
     let mut agreed: u8 = 0;
-    for group in &GROUPS {
-        let name = group.name;
-        if agrees(&rt, group)? {
+    for Group { name, stem } in &GROUPS {
+        if agrees(&rt, stem)? {
             agreed = agreed.saturating_add(1);
             println!(rt; "{name}: as stored")?;
         } else {
             println!(rt; "{name}: different")?;
         }
     }
-    println!(rt; "{agreed} of 9 as stored")
+    let groups = GROUPS.len();
+    println!(rt; "{agreed} of {groups} as stored")
 }
