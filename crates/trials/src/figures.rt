@@ -1,6 +1,6 @@
 // Figures that are known beforehand, at each kind of instrument.
 use crate::follow::Answer::*;
-use crate::follow::{answered, bond, follow, swap, swap_row};
+use crate::follow::{answered, bond, follow, swap};
 use crate::loan::{Loan, LoanRow};
 use book::call::Call;
 use book::call::Call::*;
@@ -8,6 +8,7 @@ use book::running::run;
 use curve::terms::Terms;
 use instruments::bond::BondRow;
 use instruments::kind::Instrument;
+use instruments::swap::SwapRow;
 use std::test::Fail;
 
 const UNIT: i64 = 1_000_000_000;
@@ -22,7 +23,7 @@ fn swap_without_interest(rt: HostRuntime) -> Result<(), Fail> {
         (Factor(1), Figures(999_999_999, UNIT)),
         (Reserve, Figures(0, 0)),
     ];
-    follow(&rt, *b"XXX", &mut [swap_row(0, 0); 1], &calls)
+    follow(&rt, *b"XXX", &mut [SwapRow::default(); 1], &calls)
 }
 
 #[test]
@@ -38,7 +39,7 @@ fn swap_at_2_per_cent(rt: HostRuntime) -> Result<(), Fail> {
         (Post(1, -1_000), Done),
         (Reserve, Figures(-98_040, -98_039)),
     ];
-    follow(&rt, *b"XXX", &mut [swap_row(0, 0); 1], &calls)
+    follow(&rt, *b"XXX", &mut [SwapRow::default(); 1], &calls)
 }
 
 #[test]
@@ -55,7 +56,7 @@ fn swap_blended(rt: HostRuntime) -> Result<(), Fail> {
         (Rate(120), Figures(39_227_821, 39_227_864)),
         (Reserve, Figures(1_085_924, 1_085_929)),
     ];
-    follow(&rt, *b"SEK", &mut [swap_row(0, 0); 1], &calls)
+    follow(&rt, *b"SEK", &mut [SwapRow::default(); 1], &calls)
 }
 
 #[test]
@@ -69,12 +70,7 @@ fn bond_at_25_per_cent(rt: HostRuntime) -> Result<(), Fail> {
         (Rate(1), Figures(249_999_998, 250_000_000)),
         (Reserve, Figures(80_000, 80_001)),
     ];
-    let none = BondRow {
-        maturity: 0,
-        coupon: 0,
-        price: 0,
-    };
-    follow(&rt, *b"XXX", &mut [none; 2], &calls)
+    follow(&rt, *b"XXX", &mut [BondRow::default(); 2], &calls)
 }
 
 // Enters a loan that pays 300,000 ppm in year 1, 400,000 in year 2 and 500,000 in year 3.
@@ -105,19 +101,14 @@ fn loans(rt: HostRuntime) -> Result<(), Fail> {
         (Factor(3), Figures(870_037_916, 870_037_939)),
         (Reserve, Figures(11_329, 11_331)),
     ];
-    let none = LoanRow {
-        maturity: 0,
-        base: 0,
-        price: 0,
-    };
-    follow(&rt, *b"XXX", &mut [none; 2], &calls)
+    follow(&rt, *b"XXX", &mut [LoanRow::default(); 2], &calls)
 }
 
 #[test]
 fn whole_run(rt: HostRuntime) -> Result<(), Fail> {
     let calls = [swap(1, 23_500), Reserve, Settle, Factor(1), Factor(2)];
     let terms = Terms::of_code(*b"XXX")?;
-    let replies = run(rt.alloc(), terms, &mut [swap_row(0, 0); 1], &calls)?;
+    let replies = run(rt.alloc(), terms, &mut [SwapRow::default(); 1], &calls)?;
     let due = [
         Done,
         Refused(22, 0),

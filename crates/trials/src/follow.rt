@@ -10,7 +10,7 @@ use instruments::swap::{Swap, SwapRow};
 use std::process::Abort;
 use std::test::Fail;
 
-// The answer to a call: of a refusal its number and its year.
+// The answer to a call: of a refusal its number and its year. No Reply, since what is due is known by the numbers of the format.
 #[derive(Clone, Copy, PartialEq, Eq, Debug)]
 pub(crate) enum Answer {
     Done,
@@ -35,8 +35,8 @@ pub(crate) fn follow<K: Instrument>(
     calls: &[(Call<K>, Answer)],
 ) -> Result<(), Fail> {
     let mut book = Book::open(Terms::of_code(code)?, places);
-    for (at, step) in calls.iter().enumerate() {
-        assert_eq!(rt; answered(book.call(step.0)), step.1, "call {at}");
+    for (at, &(call, due)) in calls.iter().enumerate() {
+        assert_eq!(rt; answered(book.call(call)), due, "call {at}");
     }
     Ok(())
 }

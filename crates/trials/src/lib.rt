@@ -6,7 +6,6 @@ mod figures;
 #[cfg(test)]
 mod follow;
 pub mod loan;
-pub mod loans;
 #[cfg(test)]
 mod places;
 #[cfg(test)]

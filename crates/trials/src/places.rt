@@ -29,7 +29,7 @@ fn rows_lent(rt: HostRuntime) -> Result<(), Fail> {
 
 #[test]
 fn rows_after_refusals(rt: HostRuntime) -> Result<(), Fail> {
-    let mut rows = [swap_row(0, 0), swap_row(0, 0), swap_row(60, 8)];
+    let mut rows = [SwapRow::default(), SwapRow::default(), swap_row(60, 8)];
     let calls = [
         (swap(5, 2), Done),
         (swap(2, 1), Done),
@@ -85,10 +85,10 @@ fn rows_after_withdrawals(rt: HostRuntime) -> Result<(), Fail> {
 
 #[test]
 fn sixty_places(rt: HostRuntime) -> Result<(), Fail> {
-    let mut rows = [swap_row(0, 0); 62];
+    let mut rows = [SwapRow::default(); 62];
     let mut book = Book::open(Terms::of_code(*b"XXX")?, &mut rows);
-    for maturity in 1..61 {
-        assert_eq!(rt; answered(book.call(swap(61 - maturity, 0))), Done);
+    for maturity in (1..=60).rev() {
+        assert_eq!(rt; answered(book.call(swap(maturity, 0))), Done);
     }
     assert_eq!(rt; answered(book.call(swap(61, 0))), Refused(12, 61));
     assert_eq!(rt; answered(book.call(swap(60, 0))), Refused(11, 60));
@@ -118,7 +118,7 @@ fn unsettled_by_quotations(rt: HostRuntime) -> Result<(), Fail> {
         (Settle, Done),
         (Forward(1), Figures(19_999_999, 20_000_001)),
     ];
-    follow(&rt, *b"XXX", &mut [swap_row(0, 0); 2], &calls)
+    follow(&rt, *b"XXX", &mut [SwapRow::default(); 2], &calls)
 }
 
 #[test]
@@ -136,5 +136,5 @@ fn flows_leave_book_settled(rt: HostRuntime) -> Result<(), Fail> {
         (Reserve, Figures(0, 0)),
         (Factor(1), Figures(980_392_155, 980_392_158)),
     ];
-    follow(&rt, *b"XXX", &mut [swap_row(0, 0); 2], &calls)
+    follow(&rt, *b"XXX", &mut [SwapRow::default(); 2], &calls)
 }

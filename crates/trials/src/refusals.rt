@@ -3,18 +3,11 @@ use crate::follow::Answer::*;
 use crate::follow::{Answer, bond, follow, swap, swap_row};
 use book::call::Call::*;
 use instruments::bond::BondRow;
-use instruments::class::Class;
 use instruments::swap::{Swap, SwapRow};
 use std::process::Abort;
 use std::test::Fail;
 
 const LARGEST: i32 = 1_000_000_000;
-
-const NONE: SwapRow = SwapRow {
-    maturity: 0,
-    quotation: 0,
-    class: Class::OccupationalPension,
-};
 
 #[test]
 fn maturities_entered(rt: HostRuntime) -> Result<(), Fail> {
@@ -25,8 +18,13 @@ fn maturities_entered(rt: HostRuntime) -> Result<(), Fail> {
         (swap(21, 0), Refused(10, 21)),
         (swap(19, 0), Refused(12, 19)),
     ];
-    follow(&rt, *b"SEK", &mut [NONE; 1], &krona)?;
-    follow(&rt, *b"XXX", &mut [NONE; 1], &[(swap(90, 0), Done)])
+    follow(&rt, *b"SEK", &mut [SwapRow::default(); 1], &krona)?;
+    follow(
+        &rt,
+        *b"XXX",
+        &mut [SwapRow::default(); 1],
+        &[(swap(90, 0), Done)],
+    )
 }
 
 #[test]
@@ -40,7 +38,7 @@ fn full_slices(rt: HostRuntime) -> Result<(), Fail> {
         (Withdraw(2), Done),
         (swap(4, 0), Done),
     ];
-    follow(&rt, *b"XXX", &mut [NONE; 3], &calls)?;
+    follow(&rt, *b"XXX", &mut [SwapRow::default(); 3], &calls)?;
     follow(&rt, *b"XXX", &mut [], &[(swap(5, 0), Refused(12, 5))])
 }
 
@@ -54,7 +52,7 @@ fn withdrawn_maturities(rt: HostRuntime) -> Result<(), Fail> {
         (Withdraw(7), Done),
         (Withdraw(7), Refused(13, 7)),
     ];
-    follow(&rt, *b"XXX", &mut [NONE; 3], &calls)
+    follow(&rt, *b"XXX", &mut [SwapRow::default(); 3], &calls)
 }
 
 #[test]
@@ -98,19 +96,19 @@ fn short_books(rt: HostRuntime) -> Result<(), Fail> {
         (swap(10, 23_500), Done),
         (Settle, Done),
     ];
-    follow(&rt, *b"SEK", &mut [NONE; 2], &calls)?;
-    follow::<Swap>(&rt, *b"XXX", &mut [NONE; 2], &[(Settle, Refused(18, 0))])
+    follow(&rt, *b"SEK", &mut [SwapRow::default(); 2], &calls)?;
+    follow::<Swap>(
+        &rt,
+        *b"XXX",
+        &mut [SwapRow::default(); 2],
+        &[(Settle, Refused(18, 0))],
+    )
 }
 
 // Checks the answer to a settling with one bond, under no blend.
 fn settling(rt: &impl Abort, maturity: u8, price: u32, due: Answer) -> Result<(), Fail> {
-    let none = BondRow {
-        maturity: 0,
-        coupon: 0,
-        price: 0,
-    };
     let calls = [(bond(maturity, price), Done), (Settle, due)];
-    follow(rt, *b"XXX", &mut [none; 1], &calls)
+    follow(rt, *b"XXX", &mut [BondRow::default(); 1], &calls)
 }
 
 #[test]
@@ -133,7 +131,7 @@ fn questions_too_early(rt: HostRuntime) -> Result<(), Fail> {
         (Post(120, 1), Done),
         (Reserve, Refused(22, 0)),
     ];
-    follow::<Swap>(&rt, *b"SEK", &mut [NONE; 1], &calls)
+    follow::<Swap>(&rt, *b"SEK", &mut [SwapRow::default(); 1], &calls)
 }
 
 #[test]
@@ -149,7 +147,7 @@ fn years_of_blended_curve(rt: HostRuntime) -> Result<(), Fail> {
         (Factor(121), Refused(23, 121)),
         (Rate(121), Refused(23, 121)),
     ];
-    follow(&rt, *b"SEK", &mut [NONE; 1], &calls)
+    follow(&rt, *b"SEK", &mut [SwapRow::default(); 1], &calls)
 }
 
 #[test]
@@ -169,5 +167,5 @@ fn years_of_market_curve(rt: HostRuntime) -> Result<(), Fail> {
         (Strike(5), Done),
         (Reserve, Figures(0, 0)),
     ];
-    follow(&rt, *b"XXX", &mut [NONE; 1], &calls)
+    follow(&rt, *b"XXX", &mut [SwapRow::default(); 1], &calls)
 }
