@@ -95,7 +95,7 @@ closed_answers (line ∷ rest) = after_line (line_opens line) (closed_answers re
 abbrev pub input_answers : List ℕ → List ℕ
 input_answers input = closed_answers (lines input)
 
--- the answers that are left once an opening is answered, or where none came
-abbrev pub answers_left : Option Opening → List ℕ → List ℕ
+-- the answers to the lines that are left once an opening is answered, or where none came
+abbrev pub answers_left : Option Opening → List (List ℕ) → List ℕ
 answers_left None rest = []
-answers_left (Some o) rest = open_answers (kind_for (named_code o.kind) o.class) (opened (span o.terms) 60) (lines rest)
+answers_left (Some o) rest = open_answers (kind_for (named_code o.kind) o.class) (opened (span o.terms) 60) rest

@@ -40,6 +40,6 @@ abbrev pub InputPromise : List ℕ → Type 0
 InputPromise input = ClosedPromise (lines input)
 
 -- the promise that is left to keep once an opening is answered, or where none came
-abbrev pub PromiseLeft : Option Opening → List ℕ → Type 0
+abbrev pub PromiseLeft : Option Opening → List (List ℕ) → Type 0
 PromiseLeft None rest = Unit {0}
-PromiseLeft (Some o) rest = Promise (span o.terms) 60 (open_calls (kind_for (named_code o.kind) o.class) (lines rest))
+PromiseLeft (Some o) rest = Promise (span o.terms) 60 (open_calls (kind_for (named_code o.kind) o.class) rest)

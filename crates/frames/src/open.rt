@@ -1,14 +1,14 @@
 // Lines before a book is open.
-ghost use Rattle.std.specs.Prelude.{◌≡◌, ◌≤◌, ◌++◌, length, drop, IfOk};
+ghost use Rattle.std.specs.Prelude.{◌≡◌, ◌++◌, IfOk};
 ghost use Rattle.std.specs.Option.{option_map};
 ghost use Rattle.instruments.specs.Law.{ok_map};
-ghost use Rattle.frames.specs.Inputs.{named_code, opening_means, kind_named, class_named, opening_of, frame_opens, line_opens, input_answers, answers_left};
-ghost use Rattle.frames.specs.Promises.{InputPromise, PromiseLeft};
+ghost use Rattle.frames.specs.Inputs.{named_code, opening_means, kind_named, class_named, opening_of, frame_opens, line_opens, closed_answers, answers_left};
+ghost use Rattle.frames.specs.Promises.{ClosedPromise, PromiseLeft};
 
 use crate::answer::Answer;
 use crate::frame::Frame;
 use crate::letter::Letter;
-use crate::lines::first_line;
+use crate::lines::Lines;
 use crate::opening::{Named, Opening};
 use crate::session::read_line;
 use curve::terms::Terms;
@@ -83,23 +83,23 @@ fn line_opens(line: &[u8]) -> Result<Opening, Answer>
     }
 }
 
-// Answers the lines of an input up to one that opens a book, and says what it opens and where the next line begins.
+// Answers lines up to one that opens a book, and says what it opens.
 pub(crate) fn answer_until_open(
-    input: &[u8],
+    lines: &mut Lines<'_>,
     out: &mut Vec<u8>,
-) -> Result<(Option<Opening>, usize), AllocError>
-    ensures { IfOk result (λ x. (x.1 ≤ length input.now) × (out.new.items ++ answers_left x.0 (drop x.1 input.now) ≡ out.old.items ++ input_answers input.now) × (PromiseLeft x.0 (drop x.1 input.now) → InputPromise input.now)) }
+) -> Result<Option<Opening>, AllocError>
+    ensures answers { IfOk result (λ opening. out.new.items ++ answers_left opening lines.new ≡ out.old.items ++ closed_answers lines.old) }
+    ensures promise { IfOk result (λ opening. PromiseLeft opening lines.new → ClosedPromise lines.old) }
 {
-    let mut at = 0;
-    while let Some((line, next)) = first_line(&input[at..]) {
-        at += next;
+    // Not `for line in lines`: there the proof does not know which lines are left.
+    while let Some(line) = lines.next() {
         match line_opens(line) {
             Ok(opening) => {
                 Answer::accepted(Letter::Open).write(out)?;
-                return Ok((Some(opening), at));
+                return Ok(Some(opening));
             }
             Err(refused) => refused.write(out)?,
         }
     }
-    Ok((None, at))
+    Ok(None)
 }

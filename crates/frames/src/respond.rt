@@ -4,6 +4,7 @@ ghost use Rattle.frames.specs.Inputs.{input_answers, answers_left};
 ghost use Rattle.frames.specs.Promises.{InputPromise, PromiseLeft};
 
 use crate::open::answer_until_open;
+use crate::lines::Lines;
 use crate::opening::{Named, Opening};
 use crate::serve::answer_lines;
 use book::volume::Book;
@@ -27,20 +28,24 @@ const NO_BOND: BondRow = BondRow {
 };
 
 // Opens a book of 60 places and answers the lines that follow its opening.
-fn answer_opened(opening: Opening, input: &[u8], out: &mut Vec<u8>) -> Result<(), AllocError>
-    ensures answers { OnOk result (out.new.items ≡ out.old.items ++ answers_left (Some opening) input.now) }
-    ensures promise { PromiseLeft (Some opening) input.now }
+fn answer_opened(
+    opening: Opening,
+    lines: Lines<'_>,
+    out: &mut Vec<u8>,
+) -> Result<(), AllocError>
+    ensures answers { OnOk result (out.new.items ≡ out.old.items ++ answers_left (Some opening) lines.entry) }
+    ensures promise { PromiseLeft (Some opening) lines.entry }
 {
     match opening.kind {
         Named::Swap => {
             let mut places = [NO_SWAP; 60];
             let mut book = Book::<Swap>::open(opening.terms, &mut places);
-            answer_lines(&mut book, opening.class, input, out)
+            answer_lines(&mut book, opening.class, lines, out)
         }
         Named::Bond => {
             let mut places = [NO_BOND; 60];
             let mut book = Book::<Bond>::open(opening.terms, &mut places);
-            answer_lines(&mut book, opening.class, input, out)
+            answer_lines(&mut book, opening.class, lines, out)
         }
     }
 }
@@ -51,10 +56,9 @@ pub fn respond(heap: Global, input: &[u8]) -> Result<Vec<u8>, AllocError>
     ensures promise { OnOk result (InputPromise input.now) }
 {
     let mut out = Vec::new(heap);
-    let (opening, at) = answer_until_open(input, &mut out)?;
-    let Some(opening) = opening else {
-        return Ok(out);
-    };
-    answer_opened(opening, &input[at..], &mut out)?;
+    let mut lines = Lines::new(input);
+    if let Some(opening) = answer_until_open(&mut lines, &mut out)? {
+        answer_opened(opening, lines, &mut out)?;
+    }
     Ok(out)
 }

@@ -1,6 +1,5 @@
-use Rattle.std.proofs.Common.{◌≡◌, ◌-◌, ◌≤◌, ◌++◌, length, drop, vec_items}
+use Rattle.std.proofs.Common.{◌≡◌, ◌++◌, vec_items}
 use Rattle.book.specs.Books.{register_of, Sound}
-use Rattle.frames.specs.Lines.{lines}
 use Rattle.frames.specs.Reads.{kind_of}
 use Rattle.frames.specs.Sessions.{open_answers}
 use Rattle.frames.proofs.serve.answer_lines.Given as goal
@@ -10,9 +9,5 @@ abbrev pub invariant-loop-line : goal.invariant-loop-line
 invariant-loop-line g l =
     let read = g.K.Instrument.read in
     let k = kind_of g.K.Instrument.framed read g.K.Instrument.making l.class in
-    (l.at ≤ length l.input)
-    × (vec_items l.out ++ open_answers k (register_of read l.book) (lines (drop l.at l.input)) ≡ vec_items l.initial.out ++ open_answers k (register_of read l.initial.book) (lines l.input))
+    (vec_items l.out ++ open_answers k (register_of read l.book) l.line-iterator ≡ vec_items l.initial.out ++ open_answers k (register_of read l.initial.book) l.fn.lines)
     × Sound read l.book
-
-abbrev pub decreases-loop-line : goal.decreases-loop-line
-decreases-loop-line g l = length l.input - l.at
