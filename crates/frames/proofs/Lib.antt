@@ -6,4 +6,3 @@ pub mod Promised
 pub mod Served
 pub mod Spelled
 pub mod Table
-pub mod Written

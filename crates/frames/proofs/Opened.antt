@@ -1,13 +1,14 @@
 -- One line more before a book is open.
-use Rattle.std.proofs.Common.{◌≡◌, ℕ, List, ◌∷◌, ◌++◌, Ok, Err, Some, sym, ap, ◌∙◌}
+use Rattle.std.proofs.Common.{◌≡◌, ℕ, List, ◌∷◌, ◌++◌, Ok, Err, Some, None, sym, ap, ◌∙◌}
 use Rattle.std.proofs.lemmas.List.{append_assoc}
-use Rattle.frames.specs.Answers.{answer_line, plain_answer}
+use Rattle.frames.specs.Answers.{answer_line, reply_answer}
 use Rattle.frames.specs.Inputs.{opening_means, line_opens, after_line, closed_answers, answers_left}
 use Rattle.frames.specs.declared.answer.Answer.{Answer}
+use Rattle.frames.specs.declared.letter.Letter.TheVariants.{Open}
 use Rattle.frames.specs.declared.opening.Opening.{Opening}
 
 -- a line that opens a book
-pub opened_turn : (o : Opening) (line : List ℕ) (rest ls : List (List ℕ)) (items later : List ℕ) (a : Answer) → Ok (opening_means o) ≡ line_opens line → a ≡ plain_answer 79 0 0
+pub opened_turn : (o : Opening) (line : List ℕ) (rest ls : List (List ℕ)) (items later : List ℕ) (a : Answer) → Ok (opening_means o) ≡ line_opens line → a ≡ reply_answer Open (Ok None)
     → ls ≡ line ∷ rest → later ≡ items ++ answer_line a → later ++ answers_left (Some o) rest ≡ items ++ closed_answers ls
 unfolding closed_answers
 opened_turn o line rest ls items later a opens is split written =

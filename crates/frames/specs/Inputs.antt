@@ -10,9 +10,8 @@ use Rattle.instruments.specs.declared.refusal.Refusal.TheVariants.{OutOfTurn, Un
 use Rattle.curve.specs.Currencies.{span, span_of}
 use Rattle.curve.specs.Market.{and_then}
 use Rattle.book.specs.Register.{opened}
-use Rattle.frames.specs.Answers.{answer_line, plain_answer, refused_answer}
+use Rattle.frames.specs.Answers.{answer_line, reply_answer}
 use Rattle.frames.specs.Frames.{frame_read}
-use Rattle.frames.specs.Letters.{letter_code}
 use Rattle.frames.specs.Lines.{lines}
 use Rattle.frames.specs.Reads.{kind_of}
 use Rattle.frames.specs.Sessions.{Kind, line_read, opens, open_answers}
@@ -20,6 +19,7 @@ use Rattle.frames.specs.declared.answer.Answer.{Answer}
 use Rattle.frames.specs.declared.frame.Frame.{Frame}
 use Rattle.frames.specs.declared.frame.Frame.TheVariants as frame
 use Rattle.frames.specs.declared.letter.Letter.{Letter}
+use Rattle.frames.specs.declared.letter.Letter.TheVariants as letter
 use Rattle.frames.specs.declared.opening.Named.{Named}
 use Rattle.frames.specs.declared.opening.Named.TheVariants.{Swap, Bond}
 use Rattle.frames.specs.declared.opening.Opening.{Opening}
@@ -73,7 +73,7 @@ frame_opens l bytes = cond (opens l) (and_then (frame_read l bytes 0) opening_of
 -- what a line comes to before a book is open: what it opens, or its answer
 abbrev pub opening_answer : Letter → Result (ℕ × Class × Option (ℕ × ℕ)) Refusal → Result (ℕ × Class × Option (ℕ × ℕ)) Answer
 opening_answer l (Ok opening) = Ok opening
-opening_answer l (Err refusal) = Err (refused_answer (letter_code l) refusal)
+opening_answer l (Err refusal) = Err (reply_answer l (Err refusal))
 
 abbrev pub read_opens : Result (Letter × List ℕ) Answer → Result (ℕ × Class × Option (ℕ × ℕ)) Answer
 read_opens (Ok (l, bytes)) = opening_answer l (frame_opens l bytes)
@@ -84,7 +84,7 @@ line_opens line = read_opens (line_read line)
 
 -- the answers to lines: refusals until one opens a book of 60 places, then those of the open book
 abbrev pub after_line : Result (ℕ × Class × Option (ℕ × ℕ)) Answer → List ℕ → List (List ℕ) → List ℕ
-after_line (Ok (kind, class, span)) refused rest = answer_line (plain_answer 79 0 0) ++ open_answers (kind_for kind class) (opened span 60) rest
+after_line (Ok (kind, class, span)) refused rest = answer_line (reply_answer letter.Open (Ok None)) ++ open_answers (kind_for kind class) (opened span 60) rest
 after_line (Err answer) refused rest = answer_line answer ++ refused
 
 unfoldable pub closed_answers : List (List ℕ) → List ℕ

@@ -1,89 +1,93 @@
-// What is answered to a frame, and how it is written.
-ghost use Rattle.std.specs.Prelude.{◌≡◌, ◌++◌, is_ok, if◌then◌else◌};
-ghost use Rattle.frames.specs.Answers.{answer_line, plain_answer, figures_answer, refused_answer, question_mark};
-ghost use Rattle.frames.specs.Letters.{letter_code};
+// What is answered to a line, and how it is written.
+ghost use Rattle.std.specs.Prelude.{◌≡◌, ◌≤◌, ◌++◌, length, is_ok, if◌then◌else◌, Some, None, Ok, Err};
+ghost use Rattle.frames.specs.Answers.{answer_bytes, answer_line, reply_answer, unread_answer};
+ghost use Rattle.frames.specs.Digits.{hex};
 
-use crate::digits::spell;
+use crate::digits::{spell, Line};
 use crate::letter::Letter;
+use book::running::Reply;
 use instruments::refusal::Refusal;
 use std::alloc::AllocError;
 
-// The byte that stands for a letter where none was read: a question mark.
-const UNREAD: u8 = 0x3f;
+// The byte that stands for a letter where none was read.
+const UNREAD: u8 = b'?';
 
-const NEWLINE: u8 = 10;
+const NEWLINE: u8 = b'\n';
 
-// The letter's byte, the number and the year of a refusal (zeros where nothing is refused), and the figures of a question that is answered.
+// The letter of the frame, if one was read, and the reply.
 #[derive(Clone, Copy, Debug)]
 pub struct Answer {
-    letter: u8,
-    number: u8,
-    year: u8,
-    figures: Option<(i64, i64)>,
+    letter: Option<Letter>,
+    reply: Reply,
 }
 
 impl Answer {
-    fn plain(letter: u8, number: u8, year: u8) -> Answer
-        ensures { result ≡ plain_answer letter number year }
+    // The answer to a frame whose letter is read.
+    pub(crate) fn replied(letter: Letter, reply: Reply) -> Answer
+        ensures { result ≡ reply_answer letter reply }
     {
         Answer {
-            letter,
-            number,
-            year,
-            figures: None,
+            letter: Some(letter),
+            reply,
         }
     }
 
     // A change that is accepted.
     pub fn accepted(letter: Letter) -> Answer
-        ensures { result ≡ plain_answer (letter_code letter) 0 0 }
+        ensures { result ≡ reply_answer letter (Ok None) }
     {
-        Answer::plain(letter.code(), 0, 0)
+        Answer::replied(letter, Ok(None))
     }
 
     // A question that is answered by its low and its high figure.
     pub fn answered(letter: Letter, low: i64, high: i64) -> Answer
-        ensures { result ≡ figures_answer (letter_code letter) low high }
+        ensures { result ≡ reply_answer letter (Ok (Some (low, high))) }
     {
-        Answer {
-            letter: letter.code(),
-            number: 0,
-            year: 0,
-            figures: Some((low, high)),
-        }
+        Answer::replied(letter, Ok(Some((low, high))))
     }
 
     // A frame that is refused after its letter is read.
     pub fn refused(letter: Letter, refusal: Refusal) -> Answer
-        ensures { result ≡ refused_answer (letter_code letter) refusal }
+        ensures { result ≡ reply_answer letter (Err refusal) }
     {
-        Answer::plain(letter.code(), refusal.number(), refusal.year())
+        Answer::replied(letter, Err(refusal))
     }
 
     // A line that is refused before a letter is read.
     pub fn unread(refusal: Refusal) -> Answer
-        ensures { result ≡ refused_answer question_mark refusal }
+        ensures { result ≡ unread_answer refusal }
     {
-        Answer::plain(UNREAD, refusal.number(), refusal.year())
+        Answer {
+            letter: None,
+            reply: Err(refusal),
+        }
+    }
+
+    // The digits of the letter, the number and the year of a refusal, zeros where nothing is refused, and the figures.
+    fn digits(&self) -> Line
+        ensures digits { result.items ≡ hex (answer_bytes self.now) }
+        ensures room { length result.items ≤ 38 }
+    {
+        let letter = self.letter.map_or(UNREAD, u8::from);
+        let mut line = Line::new();
+        match self.reply {
+            Ok(None) => spell(&[letter, 0, 0], &mut line),
+            Ok(Some((low, high))) => {
+                spell(&[letter, 0, 0], &mut line);
+                spell(&low.to_be_bytes(), &mut line);
+                spell(&high.to_be_bytes(), &mut line);
+            }
+            Err(refusal) => spell(&[letter, refusal.number(), refusal.year()], &mut line),
+        }
+        line
     }
 
     // Appends the line of the answer, or nothing where there is no memory.
     pub fn write(&self, out: &mut Vec<u8>) -> Result<(), AllocError>
         ensures { out.new.items ≡ (if is_ok result then out.old.items ++ answer_line self.now else out.old.items) }
     {
-        match self.figures {
-            None => {
-                let mut line = [NEWLINE; 7];
-                spell(&[self.letter, self.number, self.year], &mut line[0..6]);
-                out.extend_from_slice(&line)
-            }
-            Some((low, high)) => {
-                let mut line = [NEWLINE; 39];
-                spell(&[self.letter, self.number, self.year], &mut line[0..6]);
-                spell(&low.to_be_bytes(), &mut line[6..22]);
-                spell(&high.to_be_bytes(), &mut line[22..38]);
-                out.extend_from_slice(&line)
-            }
-        }
+        let mut line = self.digits();
+        line.push(NEWLINE);
+        out.extend_from_slice(&line)
     }
 }

@@ -27,7 +27,7 @@ impl Frame {
     {
         match bytes {
             [] => Err(Refusal::Malformed),
-            [first, ..] => Letter::of_byte(*first).ok_or(Refusal::UnknownLetter),
+            [first, ..] => Letter::try_from(*first),
         }
     }
 

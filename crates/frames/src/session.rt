@@ -3,14 +3,13 @@ ghost use Rattle.std.specs.Prelude.{◌≡◌, ◌≤◌, IfOk};
 ghost use Rattle.instruments.specs.Law.{ok_map};
 ghost use Rattle.book.specs.Books.{call_means, register_of, Sound};
 ghost use Rattle.frames.specs.Reads.{bytes_read, kind_of, Answered};
-ghost use Rattle.frames.specs.Sessions.{line_read, frame_call, reply_answer, line_outcome};
+ghost use Rattle.frames.specs.Sessions.{line_read, frame_call, line_outcome};
 
 use crate::answer::Answer;
 use crate::frame::Frame;
 use crate::hex::decode;
 use crate::letter::Letter;
 use book::call::Call;
-use book::running::Reply;
 use book::volume::Book;
 use instruments::class::Class;
 use instruments::kind::Instrument;
@@ -27,17 +26,6 @@ pub(crate) fn read_line(line: &[u8], bytes: &mut [u8; 10]) -> Result<(Letter, us
     match Frame::letter(&bytes[0..count]) {
         Ok(letter) => Ok((letter, count)),
         Err(refusal) => Err(Answer::unread(refusal)),
-    }
-}
-
-// The answer to a call.
-fn answer(letter: Letter, reply: Reply) -> Answer
-    ensures { result ≡ reply_answer letter reply }
-{
-    match reply {
-        Ok(None) => Answer::accepted(letter),
-        Ok(Some((low, high))) => Answer::answered(letter, low, high),
-        Err(refusal) => Answer::refused(letter, refusal),
     }
 }
 
@@ -79,7 +67,7 @@ pub(crate) fn answer_on<'a, K: Instrument>(
         Err(refused) => return refused,
     };
     match call_of::<K>(class, letter, &bytes[0..count]) {
-        Ok(call) => answer(letter, book.call(call)),
+        Ok(call) => Answer::replied(letter, book.call(call)),
         Err(refusal) => Answer::refused(letter, refusal),
     }
 }

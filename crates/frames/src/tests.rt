@@ -82,8 +82,8 @@ fn frames(rt: HostRuntime) -> Result<(), Fail> {
 #[test]
 fn letters(rt: HostRuntime) -> Result<(), Fail> {
     for byte in 0..=255u8 {
-        if let Some(letter) = Letter::of_byte(byte) {
-            assert_eq!(rt; letter.code(), byte);
+        if let Ok(letter) = Letter::try_from(byte) {
+            assert_eq!(rt; u8::from(letter), byte);
         }
     }
     match Frame::letter(&[0x3f]) {

@@ -1,7 +1,8 @@
 use Rattle.std.proofs.Common.{◌≡◌, ◌-◌, take, Ok, Err, ap, ◌∙◌, arith}
 use Rattle.book.specs.Books.{call_means, register_of}
 use Rattle.frames.specs.Reads.{kind_of}
-use Rattle.frames.specs.Sessions.{frame_call, reply_answer}
+use Rattle.frames.specs.Answers.{reply_answer}
+use Rattle.frames.specs.Sessions.{frame_call}
 use Rattle.frames.proofs.Calls.{line_called}
 use Rattle.frames.proofs.session.answer_on.Goals as goal
 
@@ -18,7 +19,7 @@ returns-in-Ok-call_of g c s =
     let e = line_called k R c.args.line.now (take n bytes) l (Ok made) c.in-Ok.ensures.read (c.in-Ok-call_of.ensures ∙ ap (λ j. frame_call k l (take j bytes)) whole) in
     record {
       register = kept.register ∙ ap (λ p. p.0) e;
-      answer_is = c.answer.ensures ∙ ap (reply_answer l) kept.replied ∙ ap (λ p. p.1) e;
+      answer_is = c.replied.ensures ∙ ap (reply_answer l) kept.replied ∙ ap (λ p. p.1) e;
       sound = kept.sound;
     }
 
