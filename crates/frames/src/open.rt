@@ -1,8 +1,9 @@
 // Lines before a book is open.
 ghost use Rattle.std.specs.Prelude.{◌≡◌, ◌++◌, IfOk};
-ghost use Rattle.std.specs.Option.{option_map};
+ghost use Rattle.std.specs.Option.{ok_or};
 ghost use Rattle.instruments.specs.Law.{ok_map};
-ghost use Rattle.frames.specs.Inputs.{named_code, opening_means, kind_named, class_named, opening_of, frame_opens, line_opens, closed_answers, answers_left};
+ghost use Rattle.instruments.specs.declared.refusal.Refusal.TheVariants.{UnknownKind};
+ghost use Rattle.frames.specs.Inputs.{opening_means, class_named, opening_of, frame_opens, line_opens, closed_answers, answers_left};
 ghost use Rattle.frames.specs.Promises.{ClosedPromise, PromiseLeft};
 
 use crate::answer::Answer;
@@ -12,35 +13,18 @@ use crate::lines::Lines;
 use crate::opening::{Named, Opening};
 use crate::session::read_line;
 use curve::terms::Terms;
-use instruments::bond::Bond;
 use instruments::class::Class;
-use instruments::kind::Instrument;
 use instruments::refusal::Refusal;
-use instruments::swap::Swap;
 use std::alloc::AllocError;
 
-// The kind of a letter.
-fn kind_of(byte: u8) -> Option<Named>
-    ensures { option_map named_code result ≡ kind_named byte }
-{
-    let letter = byte as char;
-    if letter == <Swap as Instrument>::LETTER {
-        Some(Named::Swap)
-    } else if letter == <Bond as Instrument>::LETTER {
-        Some(Named::Bond)
-    } else {
-        None
-    }
-}
-
-// The class of a byte.
-fn class_of(byte: u8) -> Option<Class>
-    ensures { result ≡ class_named byte }
+// The class of a byte. It is no `TryFrom`, since the type is another crate's.
+fn class_of(byte: u8) -> Result<Class, Refusal>
+    ensures { result ≡ ok_or (class_named byte) UnknownKind }
 {
     match byte {
-        0 => Some(Class::OccupationalPension),
-        1 => Some(Class::OtherInsurance),
-        _ => None,
+        0 => Ok(Class::OccupationalPension),
+        1 => Ok(Class::OtherInsurance),
+        _ => Err(Refusal::UnknownKind),
     }
 }
 
@@ -51,14 +35,11 @@ fn opening_of(frame: Frame) -> Result<Opening, Refusal>
     let Frame::Open { kind, class, code } = frame else {
         return Err(Refusal::OutOfTurn);
     };
-    let Some(kind) = kind_of(kind) else {
-        return Err(Refusal::UnknownKind);
-    };
-    let Some(class) = class_of(class) else {
-        return Err(Refusal::UnknownKind);
-    };
-    let terms = Terms::of_code(code)?;
-    Ok(Opening { kind, class, terms })
+    Ok(Opening {
+        kind: Named::try_from(kind)?,
+        class: class_of(class)?,
+        terms: Terms::of_code(code)?,
+    })
 }
 
 // What a frame opens; before a book is open only an opening is in turn.
@@ -77,10 +58,7 @@ fn line_opens(line: &[u8]) -> Result<Opening, Answer>
 {
     let mut bytes = [0; 10];
     let (letter, count) = read_line(line, &mut bytes)?;
-    match frame_opens(letter, &bytes[0..count]) {
-        Ok(opening) => Ok(opening),
-        Err(refusal) => Err(Answer::refused(letter, refusal)),
-    }
+    frame_opens(letter, &bytes[0..count]).map_err(|refusal| Answer::refused(letter, refusal))
 }
 
 // Answers lines up to one that opens a book, and says what it opens.
