@@ -5,4 +5,3 @@ pub mod Opened
 pub mod Promised
 pub mod Served
 pub mod Spelled
-pub mod Table

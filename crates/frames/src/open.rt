@@ -56,9 +56,8 @@ fn frame_opens(letter: Letter, bytes: &[u8]) -> Result<Opening, Refusal>
 fn line_opens(line: &[u8]) -> Result<Opening, Answer>
     ensures { ok_map opening_means result ≡ line_opens line.now }
 {
-    let mut bytes = [0; 10];
-    let (letter, count) = read_line(line, &mut bytes)?;
-    frame_opens(letter, &bytes[0..count]).map_err(|refusal| Answer::refused(letter, refusal))
+    let (letter, bytes) = read_line(line)?;
+    frame_opens(letter, &bytes).map_err(|refusal| Answer::refused(letter, refusal))
 }
 
 // Answers lines up to one that opens a book, and says what it opens.

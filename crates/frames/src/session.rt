@@ -1,5 +1,5 @@
 // A line on an open book: what is called, and what is answered.
-ghost use Rattle.std.specs.Prelude.{◌≡◌, ◌≤◌, IfOk};
+ghost use Rattle.std.specs.Prelude.{◌≡◌};
 ghost use Rattle.instruments.specs.Law.{ok_map};
 ghost use Rattle.book.specs.Books.{call_means, register_of, Sound};
 ghost use Rattle.frames.specs.Reads.{bytes_read, kind_of, Answered};
@@ -7,7 +7,7 @@ ghost use Rattle.frames.specs.Sessions.{line_read, frame_call, line_outcome};
 
 use crate::answer::Answer;
 use crate::frame::Frame;
-use crate::hex::decode;
+use crate::hex::{decode, Bytes};
 use crate::letter::Letter;
 use book::call::Call;
 use book::volume::Book;
@@ -15,18 +15,13 @@ use instruments::class::Class;
 use instruments::kind::Instrument;
 use instruments::refusal::Refusal;
 
-// Reads a line's bytes, and its letter, or answers that it is refused unread.
-pub(crate) fn read_line(line: &[u8], bytes: &mut [u8; 10]) -> Result<(Letter, usize), Answer>
-    ensures read { ok_map (bytes_read bytes.new) result ≡ line_read line.now }
-    ensures short { IfOk result (λ x. x.1 ≤ 10) }
+// Reads a line's letter and its bytes, or answers that it is refused unread.
+pub(crate) fn read_line(line: &[u8]) -> Result<(Letter, Bytes), Answer>
+    ensures { ok_map bytes_read result ≡ line_read line.now }
 {
-    let Some(count) = decode(line, bytes) else {
-        return Err(Answer::unread(Refusal::Malformed));
-    };
-    match Frame::letter(&bytes[0..count]) {
-        Ok(letter) => Ok((letter, count)),
-        Err(refusal) => Err(Answer::unread(refusal)),
-    }
+    let bytes = decode(line).ok_or(Answer::unread(Refusal::Malformed))?;
+    let letter = Frame::letter(&bytes).map_err(Answer::unread)?;
+    Ok((letter, bytes))
 }
 
 // The call that a frame makes on an open book of a kind.
@@ -61,12 +56,11 @@ pub(crate) fn answer_on<'a, K: Instrument>(
 ) -> Answer
     ensures { Sound K.Instrument.read book.old → Answered K.Instrument.read (kind_of K.Instrument.framed K.Instrument.read K.Instrument.making class) book.old line.now result book.new }
 {
-    let mut bytes = [0; 10];
-    let (letter, count) = match read_line(line, &mut bytes) {
+    let (letter, bytes) = match read_line(line) {
         Ok(read) => read,
         Err(refused) => return refused,
     };
-    match call_of::<K>(class, letter, &bytes[0..count]) {
+    match call_of::<K>(class, letter, &bytes) {
         Ok(call) => Answer::replied(letter, book.call(call)),
         Err(refusal) => Answer::refused(letter, refusal),
     }
