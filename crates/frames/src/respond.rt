@@ -11,8 +11,7 @@ ghost use Rattle.frames.specs.Sessions.{open_answers};
 use crate::open::answer_until_open;
 use crate::lines::Lines;
 use crate::opening::{Named, Opening};
-use crate::serve::answer_lines;
-use book::volume::Book;
+use crate::session::Session;
 use instruments::bond::{Bond, BondRow};
 use instruments::class::Class;
 use instruments::kind::Instrument;
@@ -41,11 +40,10 @@ fn answer_opened<K: Instrument>(
     out: &mut Vec<u8>,
 ) -> Result<(), AllocError>
     requires { length places.old ≡ 60 }
-    ensures answers { OnOk result (out.new.items ≡ out.old.items ++ open_answers (kind_of K.Instrument.framed K.Instrument.read K.Instrument.making opening.class) (opened (span opening.terms) 60) lines.entry) }
-    ensures promise { Promise (span opening.terms) 60 (open_calls (kind_of K.Instrument.framed K.Instrument.read K.Instrument.making opening.class) lines.entry) }
+    ensures answers { OnOk result (out.new.items ≡ out.old.items ++ open_answers (kind_of K.framed K.read K.making opening.class) (opened (span opening.terms) 60) lines.entry) }
+    ensures promise { Promise (span opening.terms) 60 (open_calls (kind_of K.framed K.read K.making opening.class) lines.entry) }
 {
-    let mut book = Book::<K>::open(opening.terms, places);
-    answer_lines(&mut book, opening.class, lines, out)
+    Session::<K>::open(opening, places).answer_lines(lines, out)
 }
 
 // Answers the lines that follow an opening.
