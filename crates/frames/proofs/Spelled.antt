@@ -1,9 +1,8 @@
 -- Digits that are written byte by byte.
-use Rattle.std.proofs.Common.{◌≡◌, ℕ, ◌+◌, ◌*◌, ◌/◌, ◌%◌, ◌<◌, ◌≤◌, List, [], ◌∷◌, ◌++◌, length, get_or, take, ℤ, Some, Ok, sym, refl, ap, ◌∙◌, append_assoc, arith, length-append, w64, of_z}
+use Rattle.std.proofs.Common.{◌≡◌, ℕ, ◌+◌, ◌*◌, ◌/◌, ◌%◌, ◌<◌, ◌≤◌, List, [], ◌∷◌, ◌++◌, length, get_or, take, ℤ, sym, refl, ap, ◌∙◌, append_assoc, arith, length-append, w64, of_z}
 use Rattle.std.proofs.lemmas.List.{take_more, length-take-le}
-use Rattle.frames.specs.Answers.{eight_bytes, letter_byte, reply_bytes, answer_bytes}
+use Rattle.frames.specs.Answers.{eight_bytes, figure_bytes}
 use Rattle.frames.specs.Digits.{digit, hex}
-use Rattle.frames.specs.declared.answer.Answer.{Answer}
 
 hex_append : (xs ys : List ℕ) → hex (xs ++ ys) ≡ hex xs ++ hex ys
 hex_append [] ys = refl
@@ -29,14 +28,26 @@ spelled_more before line first second bytes i e h high low =
     ∙ append_assoc before (hex (take i bytes)) (hex (b ∷ []))
     ∙ ap (λ l. before ++ l) (sym (hex_append (take i bytes) (b ∷ [])) ∙ sym (ap hex (take_more bytes i 0 h)))
 
--- an answer with figures, in three parts
-pub figures_digits : (a : Answer) (low high : ℤ) (letter : ℕ) (xs ys first second third : List ℕ) → a.reply ≡ Ok (Some (low, high)) → letter ≡ letter_byte a.letter
-    → xs ≡ eight_bytes (of_z w64 low) → ys ≡ eight_bytes (of_z w64 high)
-    → first ≡ hex (letter ∷ 0 ∷ 0 ∷ []) → second ≡ first ++ hex xs → third ≡ second ++ hex ys → third ≡ hex (answer_bytes a)
-figures_digits a low high letter xs ys first second third e is px py e1 e2 e3 =
-    let head = hex (letter ∷ 0 ∷ 0 ∷ []) in
-    e3 ∙ ap (λ l. l ++ hex ys) (e2 ∙ ap (λ l. l ++ hex xs) e1)
-    ∙ append_assoc head (hex xs) (hex ys)
-    ∙ ap (λ l. head ++ l) (sym (hex_append xs ys))
-    ∙ (λ i. hex (is i ∷ 0 ∷ 0 ∷ (px i ++ py i)))
-    ∙ sym (ap (λ r. hex (letter_byte a.letter ∷ reply_bytes r)) e)
+-- the figures of an answer, one after another
+figure_bytes_push : (zs : List ℤ) (z : ℤ) → figure_bytes (zs ++ z ∷ []) ≡ figure_bytes zs ++ eight_bytes (of_z w64 z)
+figure_bytes_push [] z = refl
+figure_bytes_push (y ∷ zs) z = ap (λ bs. eight_bytes (of_z w64 y) ++ bs) (figure_bytes_push zs z)
+
+figure_bytes_length : (zs : List ℤ) → length (figure_bytes zs) ≡ 8 * length zs
+figure_bytes_length [] = refl
+figure_bytes_length (z ∷ zs) = omega (arith, figure_bytes_length zs)
+
+-- how long a line is after so many figures
+pub line_length : (head line : List ℕ) (figures : List ℤ) (i : ℕ) → line ≡ hex (head ++ figure_bytes (take i figures)) → length head ≡ 3 → i ≤ length figures → length line ≡ 6 + 16 * i
+line_length head line figures i e three h =
+    omega (arith, ap length e, hex_length (head ++ figure_bytes (take i figures)), length-append head (figure_bytes (take i figures)), figure_bytes_length (take i figures), length-take-le i figures)
+
+-- the digits of one figure more
+pub figure_more : (head line later xs : List ℕ) (figures : List ℤ) (i : ℕ) (d : ℤ) → line ≡ hex (head ++ figure_bytes (take i figures)) → i < length figures
+    → xs ≡ eight_bytes (of_z w64 (get_or figures i d)) → later ≡ line ++ hex xs → later ≡ hex (head ++ figure_bytes (take (i + 1) figures))
+figure_more head line later xs figures i d e h is spelled =
+    let before = figure_bytes (take i figures) in
+    let figure = eight_bytes (of_z w64 (get_or figures i d)) in
+    spelled ∙ (λ j. e j ++ hex (is j)) ∙ sym (hex_append (head ++ before) figure)
+    ∙ ap hex (append_assoc head before figure
+    ∙ ap (λ bs. head ++ bs) (sym (figure_bytes_push (take i figures) (get_or figures i d)) ∙ sym (ap figure_bytes (take_more figures i d h))))

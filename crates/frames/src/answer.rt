@@ -1,9 +1,9 @@
 // What is answered to a line, and how it is written.
-ghost use Rattle.std.specs.Prelude.{◌≡◌, ◌≤◌, ◌++◌, length, is_ok, if◌then◌else◌, Some, None, Ok, Err};
-ghost use Rattle.frames.specs.Answers.{answer_bytes, answer_line, reply_answer, unread_answer};
+ghost use Rattle.std.specs.Prelude.{◌≡◌, ◌≤◌, [], ◌∷◌, ◌++◌, length, is_ok, if◌then◌else◌, Some, None, Ok, Err};
+ghost use Rattle.frames.specs.Answers.{answer_line, figure_bytes, reply_answer, unread_answer};
 ghost use Rattle.frames.specs.Digits.{hex};
 
-use crate::digits::{spell, Line};
+use crate::digits::{Line, spell};
 use crate::letter::Letter;
 use book::running::Reply;
 use instruments::refusal::Refusal;
@@ -63,31 +63,29 @@ impl Answer {
         }
     }
 
-    // The digits of the letter, the number and the year of a refusal, zeros where nothing is refused, and the figures.
-    fn digits(&self) -> Line
-        ensures digits { result.items ≡ hex (answer_bytes self.now) }
-        ensures room { length result.items ≤ 38 }
-    {
-        let letter = self.letter.map_or(UNREAD, u8::from);
-        let mut line = Line::new();
-        match self.reply {
-            Ok(None) => spell(&[letter, 0, 0], &mut line),
-            Ok(Some((low, high))) => {
-                spell(&[letter, 0, 0], &mut line);
-                spell(&low.to_be_bytes(), &mut line);
-                spell(&high.to_be_bytes(), &mut line);
-            }
-            Err(refusal) => spell(&[letter, refusal.number(), refusal.year()], &mut line),
-        }
-        line
-    }
-
     // Appends the line of the answer, or nothing where there is no memory.
     pub fn write(&self, out: &mut Vec<u8>) -> Result<(), AllocError>
         ensures { out.new.items ≡ (if is_ok result then out.old.items ++ answer_line self.now else out.old.items) }
     {
-        let mut line = self.digits();
-        line.push(NEWLINE);
-        out.extend_from_slice(&line)
+        let letter = self.letter.map_or(UNREAD, u8::from);
+        match self.reply {
+            Ok(None) => write_line(&[letter, 0, 0], &[], out),
+            Ok(Some((low, high))) => write_line(&[letter, 0, 0], &[low, high], out),
+            Err(refusal) => write_line(&[letter, refusal.number(), refusal.year()], &[], out),
+        }
     }
+}
+
+// Appends a line of digits, all of it or nothing.
+fn write_line(head: &[u8; 3], figures: &[i64], out: &mut Vec<u8>) -> Result<(), AllocError>
+    requires { length figures.now ≤ 2 }
+    ensures { out.new.items ≡ (if is_ok result then out.old.items ++ (hex (head.now ++ figure_bytes figures.now) ++ 10 ∷ []) else out.old.items) }
+{
+    let mut line = Line::new();
+    spell(head, &mut line);
+    for figure in figures {
+        spell(&figure.to_be_bytes(), &mut line);
+    }
+    line.push(NEWLINE);
+    out.extend_from_slice(&line)
 }

@@ -8,8 +8,8 @@ ghost use Rattle.frames.specs.Promises.{InputPromise, PromiseLeft, open_calls};
 ghost use Rattle.frames.specs.Reads.{kind_of};
 ghost use Rattle.frames.specs.Sessions.{open_answers};
 
-use crate::open::answer_until_open;
 use crate::lines::Lines;
+use crate::open::answer_until_open;
 use crate::opening::{Named, Opening};
 use crate::session::Session;
 use instruments::bond::{Bond, BondRow};
