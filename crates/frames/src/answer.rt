@@ -5,14 +5,13 @@ ghost use Rattle.frames.specs.Digits.{hex};
 
 use crate::digits::{Line, spell};
 use crate::letter::Letter;
+use crate::lines::NEWLINE;
 use book::running::Reply;
 use instruments::refusal::Refusal;
 use std::alloc::AllocError;
 
-// The byte that stands for a letter where none was read.
+// The byte that the format has for a letter where none was read.
 const UNREAD: u8 = b'?';
-
-const NEWLINE: u8 = b'\n';
 
 // The letter of the frame, if one was read, and the reply.
 #[derive(Clone, Copy, Debug)]

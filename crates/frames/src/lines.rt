@@ -7,7 +7,7 @@ ghost use Rattle.frames.specs.Lines.{front_line, lines};
 
 use std::marker::Model;
 
-const NEWLINE: u8 = b'\n';
+pub(crate) const NEWLINE: u8 = b'\n';
 
 // Where the first newline stands.
 fn first_newline(input: &[u8]) -> Option<usize>

@@ -18,14 +18,14 @@ use instruments::kind::Instrument;
 use instruments::swap::{Swap, SwapRow};
 use std::alloc::{AllocError, Global};
 
-// A place that holds no swap yet.
+// What fills the places of a book of swaps before it uses them: they are lent, and a row is plain numbers.
 const NO_SWAP: SwapRow = SwapRow {
     maturity: 0,
     quotation: 0,
     class: Class::OccupationalPension,
 };
 
-// A place that holds no bond yet.
+// The same of a book of bonds.
 const NO_BOND: BondRow = BondRow {
     maturity: 0,
     price: 0,

@@ -37,7 +37,7 @@ pub(crate) fn read_line(line: &[u8]) -> Result<(Letter, Bytes), Answer>
 fn call_of<K: Instrument>(class: Class, letter: Letter, bytes: &[u8]) -> Result<Call<K>, Refusal>
     ensures { ok_map (call_means K.means) result ≡ frame_call (kind_of K.framed K.read K.making class) letter bytes.now }
 {
-    if let Letter::Open = letter {
+    if letter == Letter::Open {
         return Err(Refusal::OutOfTurn);
     }
     match Frame::read(letter, bytes, K::frame_length())? {

@@ -1,4 +1,4 @@
-use Rattle.std.proofs.Common.{◌++◌, vec_items, sym, ap, ◌∙◌, rules}
+use Rattle.std.proofs.Common.{◌++◌, vec_items, sym, ap, ◌∙◌}
 use Rattle.std.proofs.lemmas.List.{append-nil}
 use Rattle.book.specs.Books.{register_of}
 use Rattle.frames.specs.Reads.{kind_of}
@@ -22,18 +22,15 @@ loop-line-preserved g c =
       c.answer.ensures.sound,
     )
 
-pub returns : goal.returns
+pub returns-clause-answers : goal.returns-clause-answers
 unfolding open_answers
-returns g c =
+returns-clause-answers g c =
     let read = g.K.Instrument.read in
     let k = kind_of g.K.Instrument.framed read g.K.Instrument.making c.args.self.now.class in
-    record {
-      answers = sym (append-nil (vec_items c.loop-line.out)) ∙ ap (λ l. vec_items c.loop-line.out ++ open_answers k (register_of read c.loop-line.self.book) l) (sym c.in-None.ensures.steps.0) ∙ c.loop-line.invariant.0;
-      promise = λ terms. lines_promised g.K.Instrument.framed read g.K.Instrument.making c.args.self.now.class g.met.K.Instrument.rows terms c.args.lines;
-    }
+    sym (append-nil (vec_items c.loop-line.out)) ∙ ap (λ l. vec_items c.loop-line.out ++ open_answers k (register_of read c.loop-line.self.book) l) (sym c.in-None.ensures.steps.0) ∙ c.loop-line.invariant.0
 
-pub returns-in_err-write : goal.returns-in_err-write
-returns-in_err-write g c = record {
-  answers = search rules;
-  promise = λ terms. lines_promised g.K.Instrument.framed g.K.Instrument.read g.K.Instrument.making c.args.self.now.class g.met.K.Instrument.rows terms c.args.lines;
-}
+pub returns-clause-promise : goal.returns-clause-promise
+returns-clause-promise g c terms = lines_promised g.K.Instrument.framed g.K.Instrument.read g.K.Instrument.making c.args.self.now.class g.met.K.Instrument.rows terms c.args.lines
+
+pub returns-in_err-write-clause-promise : goal.returns-in_err-write-clause-promise
+returns-in_err-write-clause-promise g c terms = lines_promised g.K.Instrument.framed g.K.Instrument.read g.K.Instrument.making c.args.self.now.class g.met.K.Instrument.rows terms c.args.lines
