@@ -1,7 +1,9 @@
--- The first line of an input, found byte by byte.
-use Rattle.std.proofs.Common.{◌≡◌, ℕ, suc, ◌+◌, ◌<◌, true, false, cond, eqb, List, [], ◌∷◌, length, get_or, take, drop, Some, None, sym, refl, ap, ◌∙◌, arith}
-use Rattle.std.proofs.lemmas.List.{drop_more, drop_all}
-use Rattle.std.proofs.lemmas.Bool.{ne_eqb, eq-eqb, cond-true, cond-false}
+-- The first line of an input, found by its newline.
+use Rattle.std.proofs.Common.{◌≡◌, ℕ, suc, min, ◌+◌, ◌<◌, ◌≤◌, true, false, cond, eqb, List, [], ◌∷◌, length, take, drop, Some, None, sym, refl, ap, ◌∙◌, arith}
+use Rattle.std.specs.List.{position, position_or_len}
+use Rattle.std.proofs.lemmas.Bool.{cond-false}
+use Rattle.std.proofs.lemmas.Grind.{common_steps}
+use Rattle.std.proofs.lemmas.List.Recursion.{is_position_or_len}
 use Rattle.frames.specs.Lines.{onto, lines, line_length, next_line, front_line}
 
 -- the first line, then the lines of the rest
@@ -13,52 +15,45 @@ lines_step b (d ∷ ds) =
     elim (eqb b 10) as (λ t. cond t ([] ∷ lines (d ∷ ds)) (onto b (lines (d ∷ ds))) ≡ take (cond t 0 (suc (line_length (d ∷ ds)))) (b ∷ d ∷ ds) ∷ lines (drop (cond t 1 (suc (next_line (d ∷ ds)))) (b ∷ d ∷ ds)))
     [ true ↦ refl | false ↦ ap (onto b) (lines_step d ds) ]
 
-pub lines_of : (input : List ℕ) → 0 < length input → lines input ≡ take (line_length input) input ∷ lines (drop (next_line input) input)
-lines_of [] h = absurd (omega arith)
+pub lines_of : (input : List ℕ) → eqb (length input) 0 ≡ false → lines input ≡ take (line_length input) input ∷ lines (drop (next_line input) input)
+lines_of [] h = cc
 lines_of (b ∷ bs) h = lines_step b bs
 
 pub no_lines : (input : List ℕ) → length input ≡ 0 → lines input ≡ []
 no_lines [] e = refl
 no_lines (b ∷ bs) e = absurd (omega arith)
 
-pub front_none : (input : List ℕ) → length input ≡ 0 → None ≡ front_line input
-front_none input e = sym (cond-true (eqb (length input) 0) None (Some (take (line_length input) input, next_line input)) (eq-eqb (length input) 0 e))
-
 -- a line that is cut at its place
-pub cut : (input line : List ℕ) (n k : ℕ) → 0 < length input → line ≡ take n input → (line_length input ≡ n) × (next_line input ≡ k)
+pub cut : (input line : List ℕ) (n k : ℕ) → eqb (length input) 0 ≡ false → line ≡ take n input → (line_length input ≡ n) × (next_line input ≡ k)
     → (Some (line, k) ≡ front_line input) × (lines input ≡ line ∷ lines (drop k input))
 cut input line n k h e places =
     let same : line ≡ take (line_length input) input = e ∙ sym (ap (λ m. take m input) places.0) in (
       ap (λ l. Some (l, k)) same ∙ ap (λ m. Some (take (line_length input) input, m)) (sym places.1)
-          ∙ sym (cond-false (eqb (length input) 0) None (Some (take (line_length input) input, next_line input)) (ne_eqb (length input) 0 (λ z. omega arith))),
+          ∙ sym (cond-false (eqb (length input) 0) None (Some (take (line_length input) input, next_line input)) h),
       lines_of input h ∙ ap (λ l. l ∷ lines (drop (next_line input) input)) (sym same) ∙ ap (λ m. line ∷ lines (drop m input)) places.1,
     )
 
--- a byte that is no newline
-pub longer : (input : List ℕ) (i : ℕ) → i < length input → eqb (get_or input i 0) 10 ≡ false
-    → (line_length input ≡ i + line_length (drop i input)) × (next_line input ≡ i + next_line (drop i input))
-    → (line_length input ≡ (i + 1) + line_length (drop (i + 1) input)) × (next_line input ≡ (i + 1) + next_line (drop (i + 1) input))
-longer input i h e before =
-    let rest = drop (i + 1) input in
-    let p : line_length (drop i input) ≡ suc (line_length rest) = ap line_length (drop_more input i 0 h) ∙ cond-false (eqb (get_or input i 0) 10) 0 (suc (line_length rest)) e in
-    let q : next_line (drop i input) ≡ suc (next_line rest) = ap next_line (drop_more input i 0 h) ∙ cond-false (eqb (get_or input i 0) 10) 1 (suc (next_line rest)) e in
-    (omega (arith, before.0), omega (arith, before.1))
+-- the next line begins after the newline, if there is one
+next_is : (bs : List ℕ) → next_line bs ≡ min (line_length bs + 1) (length bs)
+next_is [] = refl
+next_is (b ∷ bs) =
+    let rest = next_is bs in
+    elim (eqb b 10) as (λ t. cond t 1 (suc (next_line bs)) ≡ min (cond t 0 (suc (line_length bs)) + 1) (suc (length bs)))
+    [ true ↦ omega arith | false ↦ omega (arith, rest) ]
+
+length_is : (bs : List ℕ) → line_length bs ≡ position_or_len (λ b. eqb b 10) bs
+length_is = is_position_or_len line_length (λ b. eqb b 10) refl (λ b bs. grind arith)
+
+short : (bs : List ℕ) → line_length bs ≤ length bs
+short [] = omega arith
+short (b ∷ bs) =
+    let rest = short bs in
+    elim (eqb b 10) as (λ t. cond t 0 (suc (line_length bs)) ≤ suc (length bs)) [ true ↦ omega arith | false ↦ omega (arith, rest) ]
 
 -- a newline
-pub ended : (input : List ℕ) (i : ℕ) → i < length input → get_or input i 0 ≡ 10
-    → (line_length input ≡ i + line_length (drop i input)) × (next_line input ≡ i + next_line (drop i input))
-    → (line_length input ≡ i) × (next_line input ≡ i + 1)
-ended input i h e before =
-    let rest = drop (i + 1) input in
-    let p : line_length (drop i input) ≡ 0 = ap line_length (drop_more input i 0 h) ∙ ap (λ b. line_length (b ∷ rest)) e in
-    let q : next_line (drop i input) ≡ 1 = ap next_line (drop_more input i 0 h) ∙ ap (λ b. next_line (b ∷ rest)) e in
-    (omega (arith, before.0), omega (arith, before.1))
+pub ended : (input : List ℕ) (end : ℕ) → Some end ≡ position (λ b. eqb b 10) input → (end < length input) × (eqb (length input) 0 ≡ false) × (line_length input ≡ end) × (next_line input ≡ end + 1)
+ended input end e = grind (arith, common_steps, next_is input, length_is input)
 
 -- no newline at all
-pub whole : (input : List ℕ) (i : ℕ) → i ≡ length input
-    → (line_length input ≡ i + line_length (drop i input)) × (next_line input ≡ i + next_line (drop i input))
-    → (line_length input ≡ length input) × (next_line input ≡ length input)
-whole input i e before =
-    let p : line_length (drop i input) ≡ 0 = ap line_length (drop_all i input (omega arith)) in
-    let q : next_line (drop i input) ≡ 0 = ap next_line (drop_all i input (omega arith)) in
-    (omega (arith, before.0), omega (arith, before.1))
+pub whole : (input : List ℕ) → None ≡ position (λ b. eqb b 10) input → (line_length input ≡ length input) × (next_line input ≡ length input)
+whole input e = grind (arith, common_steps, next_is input, length_is input, short input)

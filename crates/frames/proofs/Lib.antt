@@ -1,9 +1,6 @@
-pub mod Calls
 pub mod Cut
 pub mod Decoded
 pub mod Opened
 pub mod Promised
 pub mod Served
 pub mod Spelled
-pub mod Table
-pub mod Written

@@ -1,24 +1,30 @@
 -- One line more before a book is open.
-use Rattle.std.proofs.Common.{◌≡◌, ℕ, List, ◌∷◌, ◌++◌, Ok, Err, Option, ap, ◌∙◌}
+use Rattle.std.proofs.Common.{◌≡◌, ℕ, List, ◌∷◌, ◌++◌, Ok, Err, Some, None, sym, ap, ◌∙◌}
 use Rattle.std.proofs.lemmas.List.{append_assoc}
-use Rattle.instruments.specs.declared.class.Class.{Class}
-use Rattle.book.specs.Register.{opened}
-use Rattle.frames.specs.Answers.{answer_line, plain_answer}
-use Rattle.frames.specs.Sessions.{open_answers}
-use Rattle.frames.specs.Inputs.{kind_for, line_opens, after_line, closed_answers}
+use Rattle.frames.specs.Answers.{answer_line, reply_answer}
+use Rattle.frames.specs.Inputs.{opening_means, line_opens, after_line, closed_answers, answers_left}
 use Rattle.frames.specs.declared.answer.Answer.{Answer}
+use Rattle.frames.specs.declared.letter.Letter.TheVariants.{Open}
+use Rattle.frames.specs.declared.opening.Opening.{Opening}
 
 -- a line that opens a book
-pub opened_turn : (kind : ℕ) (class : Class) (span : Option (ℕ × ℕ)) (line : List ℕ) (rest : List (List ℕ)) (items : List ℕ) (a : Answer) → Ok (kind, class, span) ≡ line_opens line → a ≡ plain_answer 79 0 0
-    → (items ++ answer_line a) ++ open_answers (kind_for kind class) (opened span 60) rest ≡ items ++ closed_answers (line ∷ rest)
+pub opened_turn : (o : Opening) (line : List ℕ) (rest ls : List (List ℕ)) (items later : List ℕ) (a : Answer) → Ok (opening_means o) ≡ line_opens line → a ≡ reply_answer Open (Ok None)
+    → ls ≡ line ∷ rest → later ≡ items ++ answer_line a → later ++ answers_left (Some o) rest ≡ items ++ closed_answers ls
 unfolding closed_answers
-opened_turn kind class span line rest items a opens is =
-    append_assoc items (answer_line a) (open_answers (kind_for kind class) (opened span 60) rest)
-    ∙ ap (λ b. items ++ (answer_line b ++ open_answers (kind_for kind class) (opened span 60) rest)) is
+opened_turn o line rest ls items later a opens is split written =
+    let answers = answers_left (Some o) rest in
+    ap (λ l. l ++ answers) written
+    ∙ append_assoc items (answer_line a) answers
+    ∙ ap (λ b. items ++ (answer_line b ++ answers)) is
     ∙ ap (λ r. items ++ after_line r (closed_answers rest) rest) opens
+    ∙ sym (ap (λ l. items ++ closed_answers l) split)
 
 -- a line that is refused
-pub refused_turn : (line : List ℕ) (rest : List (List ℕ)) (items : List ℕ) (a : Answer) → Err a ≡ line_opens line → (items ++ answer_line a) ++ closed_answers rest ≡ items ++ closed_answers (line ∷ rest)
+pub refused_turn : (line : List ℕ) (rest ls : List (List ℕ)) (items later : List ℕ) (a : Answer) → Err a ≡ line_opens line
+    → ls ≡ line ∷ rest → later ≡ items ++ answer_line a → later ++ closed_answers rest ≡ items ++ closed_answers ls
 unfolding closed_answers
-refused_turn line rest items a refuses =
-    append_assoc items (answer_line a) (closed_answers rest) ∙ ap (λ r. items ++ after_line r (closed_answers rest) rest) refuses
+refused_turn line rest ls items later a refuses split written =
+    ap (λ l. l ++ closed_answers rest) written
+    ∙ append_assoc items (answer_line a) (closed_answers rest)
+    ∙ ap (λ r. items ++ after_line r (closed_answers rest) rest) refuses
+    ∙ sym (ap (λ l. items ++ closed_answers l) split)

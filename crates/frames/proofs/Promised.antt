@@ -1,5 +1,5 @@
 -- The calls of lines keep the promise of a run of calls.
-use Rattle.std.proofs.Common.{◌≡◌, ℕ, Bool, true, false, cond, List, [], ◌∷◌, drop, Ok, Err, Option, Result, subst}
+use Rattle.std.proofs.Common.{◌≡◌, ℕ, Bool, true, false, cond, List, [], ◌∷◌, drop, Ok, Err, Result, Some, sym, subst}
 use Rattle.instruments.specs.Law.{Meaning, Lawful, ok_map}
 use Rattle.instruments.specs.declared.class.Class.{Class}
 use Rattle.instruments.specs.declared.refusal.Refusal.{Refusal}
@@ -12,14 +12,15 @@ use Rattle.book.specs.declared.call.Call.{Call}
 use Rattle.book.specs.declared.call.Call.TheVariants as call
 use Rattle.book.proofs.Standing.{LawfulCall, AllLawfulCalls, promised}
 use Rattle.frames.specs.Frames.{frame_read}
-use Rattle.frames.specs.Inputs.{kind_for, line_opens}
-use Rattle.frames.specs.Promises.{with_call, with_read, open_calls, after_opening, ClosedPromise}
+use Rattle.frames.specs.Inputs.{opening_means, line_opens}
+use Rattle.frames.specs.Promises.{with_call, with_read, open_calls, after_opening, ClosedPromise, PromiseLeft}
 use Rattle.frames.specs.Reads.{kind_of}
 use Rattle.frames.specs.Sessions.{Kind, line_read, call_of, opens, frame_call}
 use Rattle.frames.specs.declared.answer.Answer.{Answer}
 use Rattle.frames.specs.declared.frame.Frame.{Frame}
 use Rattle.frames.specs.declared.frame.Frame.TheVariants as frame
 use Rattle.frames.specs.declared.letter.Letter.{Letter}
+use Rattle.frames.specs.declared.opening.Opening.{Opening}
 
 -- what is made is lawful
 abbrev LawfulMade : Result Meaning Refusal → Type 0
@@ -81,11 +82,16 @@ lines_promised {Row} framed read making class law terms ls = promised terms.blen
     made body = go (making class body)
 
 -- a line that opens a book
-pub opened_promise : (kind : ℕ) (class : Class) (span : Option (ℕ × ℕ)) (line : List ℕ) (rest : List (List ℕ)) → Ok (kind, class, span) ≡ line_opens line → Promise span 60 (open_calls (kind_for kind class) rest) → ClosedPromise (line ∷ rest)
+pub opened_promise : (o : Opening) (line : List ℕ) (rest ls : List (List ℕ)) → Ok (opening_means o) ≡ line_opens line → ls ≡ line ∷ rest → PromiseLeft (Some o) rest → ClosedPromise ls
 unfolding ClosedPromise
-opened_promise kind class span line rest opens p = subst (λ r. after_opening r rest (ClosedPromise rest)) opens p
+opened_promise o line rest ls opens split p = subst ClosedPromise (sym split) (subst (λ r. after_opening r rest (ClosedPromise rest)) opens p)
 
 -- a line that is refused before a book is open
-pub refused_promise : (a : Answer) (line : List ℕ) (rest : List (List ℕ)) → Err a ≡ line_opens line → ClosedPromise rest → ClosedPromise (line ∷ rest)
+pub refused_promise : (a : Answer) (line : List ℕ) (rest ls : List (List ℕ)) → Err a ≡ line_opens line → ls ≡ line ∷ rest → ClosedPromise rest → ClosedPromise ls
 unfolding ClosedPromise
-refused_promise a line rest refuses p = subst (λ r. after_opening r rest (ClosedPromise rest)) refuses p
+refused_promise a line rest ls refuses split p = subst ClosedPromise (sym split) (subst (λ r. after_opening r rest (ClosedPromise rest)) refuses p)
+
+-- no lines are left
+pub no_promise : (ls : List (List ℕ)) → ls ≡ [] → ClosedPromise ls
+unfolding ClosedPromise
+no_promise ls none = subst ClosedPromise (sym none) tt

@@ -10,9 +10,9 @@ is_digit b = within 48 57 b || (within 65 70 b || within 97 102 b)
 abbrev pub digit_value : ℕ → ℕ
 digit_value b = cond (nat_le b 57) (b - 48) (cond (nat_le b 70) (b - 55) (b - 87))
 
--- the value of a byte as a digit, 255 where it is none
-abbrev pub table_value : ℕ → ℕ
-table_value b = cond (is_digit b) (digit_value b) 255
+-- the value of a byte, if it is a digit
+abbrev pub digit_read : ℕ → Option ℕ
+digit_read b = cond (is_digit b) (Some (digit_value b)) None
 
 -- the byte of two digits, the higher first, if both are digits
 abbrev pub pair_value : ℕ → ℕ → Option ℕ

@@ -10,9 +10,9 @@ use Rattle.instruments.specs.declared.refusal.Refusal.TheVariants.{OutOfTurn, Un
 use Rattle.curve.specs.Currencies.{span, span_of}
 use Rattle.curve.specs.Market.{and_then}
 use Rattle.book.specs.Register.{opened}
-use Rattle.frames.specs.Answers.{answer_line, plain_answer, refused_answer}
+use Rattle.frames.specs.Answers.{answer_line, reply_answer}
 use Rattle.frames.specs.Frames.{frame_read}
-use Rattle.frames.specs.Letters.{letter_code}
+use Rattle.frames.specs.Kinds.{kind_named}
 use Rattle.frames.specs.Lines.{lines}
 use Rattle.frames.specs.Reads.{kind_of}
 use Rattle.frames.specs.Sessions.{Kind, line_read, opens, open_answers}
@@ -20,41 +20,34 @@ use Rattle.frames.specs.declared.answer.Answer.{Answer}
 use Rattle.frames.specs.declared.frame.Frame.{Frame}
 use Rattle.frames.specs.declared.frame.Frame.TheVariants as frame
 use Rattle.frames.specs.declared.letter.Letter.{Letter}
+use Rattle.frames.specs.declared.letter.Letter.TheVariants as letter
 use Rattle.frames.specs.declared.opening.Named.{Named}
 use Rattle.frames.specs.declared.opening.Named.TheVariants.{Swap, Bond}
 use Rattle.frames.specs.declared.opening.Opening.{Opening}
-
--- the code of a kind's letter: S or B
-abbrev pub named_code : Named → ℕ
-named_code Swap = 83
-named_code Bond = 66
-
--- the kind of a byte, as its code
-abbrev pub kind_named : ℕ → Option ℕ
-kind_named b = cond (b == 83) (Some 83) (cond (b == 66) (Some 66) None)
 
 -- the class of a byte
 abbrev pub class_named : ℕ → Option Class
 class_named b = cond (b == 0) (Some OccupationalPension) (cond (b == 1) (Some OtherInsurance) None)
 
--- a kind for a class, by its code
-abbrev pub kind_for : ℕ → Class → Kind
-kind_for b class = cond (b == 83) (kind_of 6 swap_read swap_body class) (kind_of 10 bond_read bond_body class)
+-- a kind for a class
+abbrev pub kind_for : Named → Class → Kind
+kind_for Swap class = kind_of 6 swap_read swap_body class
+kind_for Bond class = kind_of 10 bond_read bond_body class
 
--- an opening by its kind's code, its class and its terms as a span
-abbrev pub opening_means : Opening → ℕ × Class × Option (ℕ × ℕ)
-opening_means o = (named_code o.kind, o.class, span o.terms)
+-- an opening by its kind, its class and its terms as a span
+abbrev pub opening_means : Opening → Named × Class × Option (ℕ × ℕ)
+opening_means o = (o.kind, o.class, span o.terms)
 
 -- what an opening frame opens: kind and class first, then the code
-abbrev pub with_class : ℕ → Option Class → List ℕ → Result (ℕ × Class × Option (ℕ × ℕ)) Refusal
+abbrev pub with_class : Named → Option Class → List ℕ → Result (Named × Class × Option (ℕ × ℕ)) Refusal
 with_class kind None code = Err UnknownKind
 with_class kind (Some class) code = ok_map (λ s. (kind, class, s)) (span_of code)
 
-abbrev pub with_kind : Option ℕ → Option Class → List ℕ → Result (ℕ × Class × Option (ℕ × ℕ)) Refusal
+abbrev pub with_kind : Option Named → Option Class → List ℕ → Result (Named × Class × Option (ℕ × ℕ)) Refusal
 with_kind None class code = Err UnknownKind
 with_kind (Some kind) class code = with_class kind class code
 
-abbrev pub opening_of : Frame → Result (ℕ × Class × Option (ℕ × ℕ)) Refusal
+abbrev pub opening_of : Frame → Result (Named × Class × Option (ℕ × ℕ)) Refusal
 opening_of (frame.Open kind class code) = with_kind (kind_named kind) (class_named class) code
 opening_of frame.Quote = Err OutOfTurn
 opening_of (frame.Withdraw m) = Err OutOfTurn
@@ -67,24 +60,24 @@ opening_of (frame.Rate t) = Err OutOfTurn
 opening_of frame.Reserve = Err OutOfTurn
 
 -- what a frame comes to before a book is open: only an opening is in turn
-abbrev pub frame_opens : Letter → List ℕ → Result (ℕ × Class × Option (ℕ × ℕ)) Refusal
+abbrev pub frame_opens : Letter → List ℕ → Result (Named × Class × Option (ℕ × ℕ)) Refusal
 frame_opens l bytes = cond (opens l) (and_then (frame_read l bytes 0) opening_of) (Err OutOfTurn)
 
 -- what a line comes to before a book is open: what it opens, or its answer
-abbrev pub opening_answer : Letter → Result (ℕ × Class × Option (ℕ × ℕ)) Refusal → Result (ℕ × Class × Option (ℕ × ℕ)) Answer
+abbrev pub opening_answer : Letter → Result (Named × Class × Option (ℕ × ℕ)) Refusal → Result (Named × Class × Option (ℕ × ℕ)) Answer
 opening_answer l (Ok opening) = Ok opening
-opening_answer l (Err refusal) = Err (refused_answer (letter_code l) refusal)
+opening_answer l (Err refusal) = Err (reply_answer l (Err refusal))
 
-abbrev pub read_opens : Result (Letter × List ℕ) Answer → Result (ℕ × Class × Option (ℕ × ℕ)) Answer
+abbrev pub read_opens : Result (Letter × List ℕ) Answer → Result (Named × Class × Option (ℕ × ℕ)) Answer
 read_opens (Ok (l, bytes)) = opening_answer l (frame_opens l bytes)
 read_opens (Err answer) = Err answer
 
-abbrev pub line_opens : List ℕ → Result (ℕ × Class × Option (ℕ × ℕ)) Answer
+abbrev pub line_opens : List ℕ → Result (Named × Class × Option (ℕ × ℕ)) Answer
 line_opens line = read_opens (line_read line)
 
 -- the answers to lines: refusals until one opens a book of 60 places, then those of the open book
-abbrev pub after_line : Result (ℕ × Class × Option (ℕ × ℕ)) Answer → List ℕ → List (List ℕ) → List ℕ
-after_line (Ok (kind, class, span)) refused rest = answer_line (plain_answer 79 0 0) ++ open_answers (kind_for kind class) (opened span 60) rest
+abbrev pub after_line : Result (Named × Class × Option (ℕ × ℕ)) Answer → List ℕ → List (List ℕ) → List ℕ
+after_line (Ok (kind, class, span)) refused rest = answer_line (reply_answer letter.Open (Ok None)) ++ open_answers (kind_for kind class) (opened span 60) rest
 after_line (Err answer) refused rest = answer_line answer ++ refused
 
 unfoldable pub closed_answers : List (List ℕ) → List ℕ
@@ -95,7 +88,7 @@ closed_answers (line ∷ rest) = after_line (line_opens line) (closed_answers re
 abbrev pub input_answers : List ℕ → List ℕ
 input_answers input = closed_answers (lines input)
 
--- the answers that are left once an opening is answered, or where none came
-abbrev pub answers_left : Option Opening → List ℕ → List ℕ
+-- the answers to the lines that are left once an opening is answered, or where none came
+abbrev pub answers_left : Option Opening → List (List ℕ) → List ℕ
 answers_left None rest = []
-answers_left (Some o) rest = open_answers (kind_for (named_code o.kind) o.class) (opened (span o.terms) 60) (lines rest)
+answers_left (Some o) rest = open_answers (kind_for o.kind o.class) (opened (span o.terms) 60) rest

@@ -3,6 +3,7 @@ pub mod Digits
 pub mod Frames
 pub mod Hex
 pub mod Inputs
+pub mod Kinds
 pub mod Letters
 pub mod Lines
 pub mod Promises

@@ -1,5 +1,5 @@
 -- What a line comes to, before a book is open and after.
-use Rattle.std.specs.Prelude.{ℕ, Bool, cond, List, [], ◌∷◌, ◌++◌, drop, ℤ, Some, None, Ok, Err, Option, Result, ◌==◌}
+use Rattle.std.specs.Prelude.{ℕ, Bool, cond, List, [], ◌∷◌, ◌++◌, drop, Some, None, Ok, Err, Option, Result, ◌==◌}
 use Rattle.instruments.specs.Law.{Meaning, ok_map}
 use Rattle.instruments.specs.declared.refusal.Refusal.{Refusal}
 use Rattle.instruments.specs.declared.refusal.Refusal.TheVariants.{Malformed, OutOfTurn}
@@ -7,7 +7,7 @@ use Rattle.curve.specs.Market.{and_then}
 use Rattle.book.specs.Register.{Register, told, reply}
 use Rattle.book.specs.declared.call.Call.{Call}
 use Rattle.book.specs.declared.call.Call.TheVariants as call
-use Rattle.frames.specs.Answers.{answer_line, plain_answer, figures_answer, refused_answer, question_mark}
+use Rattle.frames.specs.Answers.{answer_line, reply_answer, unread_answer}
 use Rattle.frames.specs.Frames.{frame_letter, frame_read}
 use Rattle.frames.specs.Hex.{decoded}
 use Rattle.frames.specs.Letters.{letter_code}
@@ -24,10 +24,10 @@ pub record Kind : Type 0 where
 -- the letter and the bytes of a line, or the answer that refuses it unread
 abbrev pub with_letter : List ℕ → Result Letter Refusal → Result (Letter × List ℕ) Answer
 with_letter bytes (Ok l) = Ok (l, bytes)
-with_letter bytes (Err refusal) = Err (refused_answer question_mark refusal)
+with_letter bytes (Err refusal) = Err (unread_answer refusal)
 
 abbrev pub read_bytes : Option (List ℕ) → Result (Letter × List ℕ) Answer
-read_bytes None = Err (refused_answer question_mark Malformed)
+read_bytes None = Err (unread_answer Malformed)
 read_bytes (Some bytes) = with_letter bytes (frame_letter bytes)
 
 abbrev pub line_read : List ℕ → Result (Letter × List ℕ) Answer
@@ -53,16 +53,10 @@ opens l = letter_code l == 79
 abbrev pub frame_call : Kind → Letter → List ℕ → Result (Call Meaning) Refusal
 frame_call k l bytes = cond (opens l) (Err OutOfTurn) (and_then (frame_read l bytes k.quote_length) (call_of k bytes))
 
--- the answer to a call
-abbrev pub reply_answer : Letter → Result (Option (ℤ × ℤ)) Refusal → Answer
-reply_answer l (Ok None) = plain_answer (letter_code l) 0 0
-reply_answer l (Ok (Some figures)) = figures_answer (letter_code l) figures.0 figures.1
-reply_answer l (Err refusal) = refused_answer (letter_code l) refusal
-
 -- what a line comes to on an open book: the register after it, and its answer
 abbrev pub call_outcome : Register → Letter → Result (Call Meaning) Refusal → Register × Answer
 call_outcome R l (Ok c) = (told R c, reply_answer l (reply R c))
-call_outcome R l (Err refusal) = (R, refused_answer (letter_code l) refusal)
+call_outcome R l (Err refusal) = (R, reply_answer l (Err refusal))
 
 abbrev pub read_outcome : Kind → Register → Result (Letter × List ℕ) Answer → Register × Answer
 read_outcome k R (Ok (l, bytes)) = call_outcome R l (frame_call k l bytes)

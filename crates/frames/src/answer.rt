@@ -1,89 +1,90 @@
-// What is answered to a frame, and how it is written.
-ghost use Rattle.std.specs.Prelude.{◌≡◌, ◌++◌, is_ok, if◌then◌else◌};
-ghost use Rattle.frames.specs.Answers.{answer_line, plain_answer, figures_answer, refused_answer, question_mark};
-ghost use Rattle.frames.specs.Letters.{letter_code};
+// What is answered to a line, and how it is written.
+ghost use Rattle.std.specs.Prelude.{◌≡◌, ◌≤◌, [], ◌∷◌, ◌++◌, length, is_ok, if◌then◌else◌, Some, None, Ok, Err};
+ghost use Rattle.frames.specs.Answers.{answer_line, figure_bytes, reply_answer, unread_answer};
+ghost use Rattle.frames.specs.Digits.{hex};
 
-use crate::digits::spell;
+use crate::digits::{Line, spell};
 use crate::letter::Letter;
+use crate::lines::NEWLINE;
+use book::running::Reply;
 use instruments::refusal::Refusal;
 use std::alloc::AllocError;
 
-// The byte that stands for a letter where none was read: a question mark.
-const UNREAD: u8 = 0x3f;
+// The byte that the format has for a letter where none was read.
+const UNREAD: u8 = b'?';
 
-const NEWLINE: u8 = 10;
-
-// The letter's byte, the number and the year of a refusal (zeros where nothing is refused), and the figures of a question that is answered.
+// The letter of the frame, if one was read, and the reply.
 #[derive(Clone, Copy, Debug)]
 pub struct Answer {
-    letter: u8,
-    number: u8,
-    year: u8,
-    figures: Option<(i64, i64)>,
+    letter: Option<Letter>,
+    reply: Reply,
 }
 
 impl Answer {
-    fn plain(letter: u8, number: u8, year: u8) -> Answer
-        ensures { result ≡ plain_answer letter number year }
+    // The answer to a frame whose letter is read.
+    pub(crate) fn replied(letter: Letter, reply: Reply) -> Answer
+        ensures { result ≡ reply_answer letter reply }
     {
         Answer {
-            letter,
-            number,
-            year,
-            figures: None,
+            letter: Some(letter),
+            reply,
         }
     }
 
     // A change that is accepted.
     pub fn accepted(letter: Letter) -> Answer
-        ensures { result ≡ plain_answer (letter_code letter) 0 0 }
+        ensures { result ≡ reply_answer letter (Ok None) }
     {
-        Answer::plain(letter.code(), 0, 0)
+        Answer::replied(letter, Ok(None))
     }
 
     // A question that is answered by its low and its high figure.
     pub fn answered(letter: Letter, low: i64, high: i64) -> Answer
-        ensures { result ≡ figures_answer (letter_code letter) low high }
+        ensures { result ≡ reply_answer letter (Ok (Some (low, high))) }
     {
-        Answer {
-            letter: letter.code(),
-            number: 0,
-            year: 0,
-            figures: Some((low, high)),
-        }
+        Answer::replied(letter, Ok(Some((low, high))))
     }
 
     // A frame that is refused after its letter is read.
     pub fn refused(letter: Letter, refusal: Refusal) -> Answer
-        ensures { result ≡ refused_answer (letter_code letter) refusal }
+        ensures { result ≡ reply_answer letter (Err refusal) }
     {
-        Answer::plain(letter.code(), refusal.number(), refusal.year())
+        Answer::replied(letter, Err(refusal))
     }
 
     // A line that is refused before a letter is read.
     pub fn unread(refusal: Refusal) -> Answer
-        ensures { result ≡ refused_answer question_mark refusal }
+        ensures { result ≡ unread_answer refusal }
     {
-        Answer::plain(UNREAD, refusal.number(), refusal.year())
+        Answer {
+            letter: None,
+            reply: Err(refusal),
+        }
     }
 
     // Appends the line of the answer, or nothing where there is no memory.
     pub fn write(&self, out: &mut Vec<u8>) -> Result<(), AllocError>
         ensures { out.new.items ≡ (if is_ok result then out.old.items ++ answer_line self.now else out.old.items) }
     {
-        match self.figures {
-            None => {
-                let mut line = [NEWLINE; 7];
-                spell(&[self.letter, self.number, self.year], &mut line[0..6]);
-                out.extend_from_slice(&line)
-            }
-            Some((low, high)) => {
-                let mut line = [NEWLINE; 39];
-                spell(&[self.letter, self.number, self.year], &mut line[0..6]);
-                spell(&low.to_be_bytes(), &mut line[6..22]);
-                spell(&high.to_be_bytes(), &mut line[22..38]);
-                out.extend_from_slice(&line)
-            }
+        let letter = self.letter.map_or(UNREAD, u8::from);
+        match self.reply {
+            Ok(None) => write_line(&[letter, 0, 0], &[], out),
+            Ok(Some((low, high))) => write_line(&[letter, 0, 0], &[low, high], out),
+            Err(refusal) => write_line(&[letter, refusal.number(), refusal.year()], &[], out),
         }
     }
+}
+
+// Appends a line of digits, all of it or nothing.
+fn write_line(head: &[u8; 3], figures: &[i64], out: &mut Vec<u8>) -> Result<(), AllocError>
+    requires { length figures.now ≤ 2 }
+    ensures { out.new.items ≡ (if is_ok result then out.old.items ++ (hex (head.now ++ figure_bytes figures.now) ++ 10 ∷ []) else out.old.items) }
+{
+    let mut line = Line::new();
+    spell(head, &mut line);
+    for figure in figures {
+        spell(&figure.to_be_bytes(), &mut line);
+    }
+    line.push(NEWLINE);
+    out.extend_from_slice(&line)
 }

@@ -5,7 +5,8 @@ ghost use Rattle.frames.specs.Frames.{frame_letter, frame_length, frame_read};
 use crate::letter::Letter;
 use instruments::refusal::Refusal;
 
-// The body of a quotation is left to the kind of instrument that the book takes.
+// The bytes of an opening stay as they came, since they are refused only where an opening is in turn. The body of a quotation is left to
+// the kind of instrument that the book takes.
 #[derive(Clone, Copy, Debug)]
 pub enum Frame {
     Open { kind: u8, class: u8, code: [u8; 3] },
@@ -27,7 +28,7 @@ impl Frame {
     {
         match bytes {
             [] => Err(Refusal::Malformed),
-            [first, ..] => Letter::of_byte(*first).ok_or(Refusal::UnknownLetter),
+            [first, ..] => Letter::try_from(*first),
         }
     }
 

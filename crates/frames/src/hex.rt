@@ -1,56 +1,44 @@
 // How a line of hexadecimal digits is read as bytes.
-ghost use Rattle.std.specs.Prelude.{◌≡◌, ◌≤◌, take, IfSome};
+ghost use Rattle.std.specs.Prelude.{◌≡◌, ◌≤◌, length, IfSome};
 ghost use Rattle.std.specs.Option.{option_map};
-ghost use Rattle.frames.specs.Hex.{decoded, pair_value, table_value};
+ghost use Rattle.frames.specs.Hex.{decoded, digit_read, pair_value};
 
-// The value of each byte as a digit, and 255 for a byte that is none.
-static VALUES: [u8; 256] = *b"\
-    \xff\xff\xff\xff\xff\xff\xff\xff\xff\xff\xff\xff\xff\xff\xff\xff\
-    \xff\xff\xff\xff\xff\xff\xff\xff\xff\xff\xff\xff\xff\xff\xff\xff\
-    \xff\xff\xff\xff\xff\xff\xff\xff\xff\xff\xff\xff\xff\xff\xff\xff\
-    \x00\x01\x02\x03\x04\x05\x06\x07\x08\x09\xff\xff\xff\xff\xff\xff\
-    \xff\x0a\x0b\x0c\x0d\x0e\x0f\xff\xff\xff\xff\xff\xff\xff\xff\xff\
-    \xff\xff\xff\xff\xff\xff\xff\xff\xff\xff\xff\xff\xff\xff\xff\xff\
-    \xff\x0a\x0b\x0c\x0d\x0e\x0f\xff\xff\xff\xff\xff\xff\xff\xff\xff\
-    \xff\xff\xff\xff\xff\xff\xff\xff\xff\xff\xff\xff\xff\xff\xff\xff\
-    \xff\xff\xff\xff\xff\xff\xff\xff\xff\xff\xff\xff\xff\xff\xff\xff\
-    \xff\xff\xff\xff\xff\xff\xff\xff\xff\xff\xff\xff\xff\xff\xff\xff\
-    \xff\xff\xff\xff\xff\xff\xff\xff\xff\xff\xff\xff\xff\xff\xff\xff\
-    \xff\xff\xff\xff\xff\xff\xff\xff\xff\xff\xff\xff\xff\xff\xff\xff\
-    \xff\xff\xff\xff\xff\xff\xff\xff\xff\xff\xff\xff\xff\xff\xff\xff\
-    \xff\xff\xff\xff\xff\xff\xff\xff\xff\xff\xff\xff\xff\xff\xff\xff\
-    \xff\xff\xff\xff\xff\xff\xff\xff\xff\xff\xff\xff\xff\xff\xff\xff\
-    \xff\xff\xff\xff\xff\xff\xff\xff\xff\xff\xff\xff\xff\xff\xff\xff";
+use arrayvec::ArrayVec;
 
-fn value(byte: u8) -> u8
-    ensures { result ≡ table_value byte }
+// The bytes of a frame, of which the longest has ten.
+pub type Bytes = ArrayVec<u8, 10>;
+
+// The value of a digit.
+fn value(byte: u8) -> Option<u8>
+    ensures { result ≡ digit_read byte }
 {
-    VALUES[byte as usize]
+    match byte {
+        b'0'..=b'9' => Some(byte - b'0'),
+        b'A'..=b'F' => Some(byte - b'A' + 10),
+        b'a'..=b'f' => Some(byte - b'a' + 10),
+        _ => None,
+    }
 }
 
 // The byte of two digits, the higher first.
 fn pair(high: u8, low: u8) -> Option<u8>
     ensures { result ≡ pair_value high low }
 {
-    let (high, low) = (value(high), value(low));
-    if high > 15 || low > 15 {
-        return None;
-    }
+    let (high, low) = (value(high)?, value(low)?);
     Some(16 * high + low)
 }
 
-// Writes the bytes of a line of digits and says how many they are. What stands after them, and all of it where the line is no frame, is left open.
-pub fn decode(line: &[u8], bytes: &mut [u8; 10]) -> Option<usize>
-    ensures value { option_map (λ n. take n bytes.new) result ≡ decoded line.now }
-    ensures count { IfSome result (λ n. (1 ≤ n) × (n ≤ 10)) }
+// The bytes of a line of digits, if it is a frame.
+pub fn decode(line: &[u8]) -> Option<Bytes>
+    ensures value { option_map (λ bytes. bytes.items) result ≡ decoded line.now }
+    ensures count { IfSome result (λ bytes. (1 ≤ length bytes.items) × (length bytes.items ≤ 10)) }
 {
-    let digits = line.len();
-    if digits < 2 || digits > 20 || digits % 2 != 0 {
+    if line.is_empty() || line.len() > 20 || line.len() % 2 != 0 {
         return None;
     }
-    let count = digits / 2;
-    for i in 0..count {
-        bytes[i] = pair(line[2 * i], line[2 * i + 1])?;
+    let mut bytes = Bytes::new();
+    for digits in line.chunks_exact(2) {
+        bytes.push(pair(digits[0], digits[1])?);
     }
-    Some(count)
+    Some(bytes)
 }

@@ -10,7 +10,6 @@ pub mod lines;
 mod open;
 pub mod opening;
 pub mod respond;
-mod serve;
-pub mod session;
+mod session;
 #[cfg(test)]
 mod tests;

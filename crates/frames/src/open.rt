@@ -1,46 +1,30 @@
 // Lines before a book is open.
-ghost use Rattle.std.specs.Prelude.{◌≡◌, ◌≤◌, ◌++◌, length, drop, IfOk};
-ghost use Rattle.std.specs.Option.{option_map};
+ghost use Rattle.std.specs.Prelude.{◌≡◌, ◌++◌, IfOk};
+ghost use Rattle.std.specs.Option.{ok_or};
 ghost use Rattle.instruments.specs.Law.{ok_map};
-ghost use Rattle.frames.specs.Inputs.{named_code, opening_means, kind_named, class_named, opening_of, frame_opens, line_opens, input_answers, answers_left};
-ghost use Rattle.frames.specs.Promises.{InputPromise, PromiseLeft};
+ghost use Rattle.instruments.specs.declared.refusal.Refusal.TheVariants.{UnknownKind};
+ghost use Rattle.frames.specs.Inputs.{opening_means, class_named, opening_of, frame_opens, line_opens, closed_answers, answers_left};
+ghost use Rattle.frames.specs.Promises.{ClosedPromise, PromiseLeft};
 
 use crate::answer::Answer;
 use crate::frame::Frame;
 use crate::letter::Letter;
-use crate::lines::first_line;
+use crate::lines::Lines;
 use crate::opening::{Named, Opening};
 use crate::session::read_line;
 use curve::terms::Terms;
-use instruments::bond::Bond;
 use instruments::class::Class;
-use instruments::kind::Instrument;
 use instruments::refusal::Refusal;
-use instruments::swap::Swap;
 use std::alloc::AllocError;
 
-// The kind of a letter.
-fn kind_of(byte: u8) -> Option<Named>
-    ensures { option_map named_code result ≡ kind_named byte }
-{
-    let letter = byte as char;
-    if letter == <Swap as Instrument>::LETTER {
-        Some(Named::Swap)
-    } else if letter == <Bond as Instrument>::LETTER {
-        Some(Named::Bond)
-    } else {
-        None
-    }
-}
-
-// The class of a byte.
-fn class_of(byte: u8) -> Option<Class>
-    ensures { result ≡ class_named byte }
+// The class of a byte. It is no `TryFrom`, since the type is another crate's.
+fn class_of(byte: u8) -> Result<Class, Refusal>
+    ensures { result ≡ ok_or (class_named byte) UnknownKind }
 {
     match byte {
-        0 => Some(Class::OccupationalPension),
-        1 => Some(Class::OtherInsurance),
-        _ => None,
+        0 => Ok(Class::OccupationalPension),
+        1 => Ok(Class::OtherInsurance),
+        _ => Err(Refusal::UnknownKind),
     }
 }
 
@@ -51,14 +35,11 @@ fn opening_of(frame: Frame) -> Result<Opening, Refusal>
     let Frame::Open { kind, class, code } = frame else {
         return Err(Refusal::OutOfTurn);
     };
-    let Some(kind) = kind_of(kind) else {
-        return Err(Refusal::UnknownKind);
-    };
-    let Some(class) = class_of(class) else {
-        return Err(Refusal::UnknownKind);
-    };
-    let terms = Terms::of_code(code)?;
-    Ok(Opening { kind, class, terms })
+    Ok(Opening {
+        kind: Named::try_from(kind)?,
+        class: class_of(class)?,
+        terms: Terms::of_code(code)?,
+    })
 }
 
 // What a frame opens; before a book is open only an opening is in turn.
@@ -75,31 +56,27 @@ fn frame_opens(letter: Letter, bytes: &[u8]) -> Result<Opening, Refusal>
 fn line_opens(line: &[u8]) -> Result<Opening, Answer>
     ensures { ok_map opening_means result ≡ line_opens line.now }
 {
-    let mut bytes = [0; 10];
-    let (letter, count) = read_line(line, &mut bytes)?;
-    match frame_opens(letter, &bytes[0..count]) {
-        Ok(opening) => Ok(opening),
-        Err(refusal) => Err(Answer::refused(letter, refusal)),
-    }
+    let (letter, bytes) = read_line(line)?;
+    frame_opens(letter, &bytes).map_err(|refusal| Answer::refused(letter, refusal))
 }
 
-// Answers the lines of an input up to one that opens a book, and says what it opens and where the next line begins.
+// Answers lines up to one that opens a book, and says what it opens.
 pub(crate) fn answer_until_open(
-    input: &[u8],
+    lines: &mut Lines<'_>,
     out: &mut Vec<u8>,
-) -> Result<(Option<Opening>, usize), AllocError>
-    ensures { IfOk result (λ x. (x.1 ≤ length input.now) × (out.new.items ++ answers_left x.0 (drop x.1 input.now) ≡ out.old.items ++ input_answers input.now) × (PromiseLeft x.0 (drop x.1 input.now) → InputPromise input.now)) }
+) -> Result<Option<Opening>, AllocError>
+    ensures answers { IfOk result (λ opening. out.new.items ++ answers_left opening lines.new ≡ out.old.items ++ closed_answers lines.old) }
+    ensures promise { IfOk result (λ opening. PromiseLeft opening lines.new → ClosedPromise lines.old) }
 {
-    let mut at = 0;
-    while let Some((line, next)) = first_line(&input[at..]) {
-        at += next;
+    // Not `for line in lines`: there the proof does not know which lines are left.
+    while let Some(line) = lines.next() {
         match line_opens(line) {
             Ok(opening) => {
                 Answer::accepted(Letter::Open).write(out)?;
-                return Ok((Some(opening), at));
+                return Ok(Some(opening));
             }
             Err(refused) => refused.write(out)?,
         }
     }
-    Ok((None, at))
+    Ok(None)
 }

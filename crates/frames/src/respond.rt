@@ -1,47 +1,59 @@
 // The answers to a whole input.
-ghost use Rattle.std.specs.Prelude.{◌≡◌, ◌++◌, IfOk, Some, OnOk};
+ghost use Rattle.std.specs.Prelude.{◌≡◌, ◌++◌, length, IfOk, Some, OnOk};
+ghost use Rattle.curve.specs.Currencies.{span};
+ghost use Rattle.book.specs.Promise.{Promise};
+ghost use Rattle.book.specs.Register.{opened};
 ghost use Rattle.frames.specs.Inputs.{input_answers, answers_left};
-ghost use Rattle.frames.specs.Promises.{InputPromise, PromiseLeft};
+ghost use Rattle.frames.specs.Promises.{InputPromise, PromiseLeft, open_calls};
+ghost use Rattle.frames.specs.Reads.{kind_of};
+ghost use Rattle.frames.specs.Sessions.{open_answers};
 
+use crate::lines::Lines;
 use crate::open::answer_until_open;
 use crate::opening::{Named, Opening};
-use crate::serve::answer_lines;
-use book::volume::Book;
+use crate::session::Session;
 use instruments::bond::{Bond, BondRow};
 use instruments::class::Class;
+use instruments::kind::Instrument;
 use instruments::swap::{Swap, SwapRow};
 use std::alloc::{AllocError, Global};
 
-// A place that holds no swap yet.
+// What fills the places of a book of swaps before it uses them: they are lent, and a row is plain numbers.
 const NO_SWAP: SwapRow = SwapRow {
     maturity: 0,
     quotation: 0,
     class: Class::OccupationalPension,
 };
 
-// A place that holds no bond yet.
+// The same of a book of bonds.
 const NO_BOND: BondRow = BondRow {
     maturity: 0,
     price: 0,
     coupon: 0,
 };
 
-// Opens a book of 60 places and answers the lines that follow its opening.
-fn answer_opened(opening: Opening, input: &[u8], out: &mut Vec<u8>) -> Result<(), AllocError>
-    ensures answers { OnOk result (out.new.items ≡ out.old.items ++ answers_left (Some opening) input.now) }
-    ensures promise { PromiseLeft (Some opening) input.now }
+// Opens a book of one kind of instrument in 60 places, and answers the lines that follow its opening.
+fn answer_opened<K: Instrument>(
+    places: &mut [K::Row],
+    opening: Opening,
+    lines: Lines<'_>,
+    out: &mut Vec<u8>,
+) -> Result<(), AllocError>
+    requires { length places.old ≡ 60 }
+    ensures answers { OnOk result (out.new.items ≡ out.old.items ++ open_answers (kind_of K.framed K.read K.making opening.class) (opened (span opening.terms) 60) lines.entry) }
+    ensures promise { Promise (span opening.terms) 60 (open_calls (kind_of K.framed K.read K.making opening.class) lines.entry) }
+{
+    Session::<K>::open(opening, places).answer_lines(lines, out)
+}
+
+// Answers the lines that follow an opening.
+fn answer_after(opening: Opening, lines: Lines<'_>, out: &mut Vec<u8>) -> Result<(), AllocError>
+    ensures answers { OnOk result (out.new.items ≡ out.old.items ++ answers_left (Some opening) lines.entry) }
+    ensures promise { PromiseLeft (Some opening) lines.entry }
 {
     match opening.kind {
-        Named::Swap => {
-            let mut places = [NO_SWAP; 60];
-            let mut book = Book::<Swap>::open(opening.terms, &mut places);
-            answer_lines(&mut book, opening.class, input, out)
-        }
-        Named::Bond => {
-            let mut places = [NO_BOND; 60];
-            let mut book = Book::<Bond>::open(opening.terms, &mut places);
-            answer_lines(&mut book, opening.class, input, out)
-        }
+        Named::Swap => answer_opened::<Swap>(&mut [NO_SWAP; 60], opening, lines, out),
+        Named::Bond => answer_opened::<Bond>(&mut [NO_BOND; 60], opening, lines, out),
     }
 }
 
@@ -51,10 +63,9 @@ pub fn respond(heap: Global, input: &[u8]) -> Result<Vec<u8>, AllocError>
     ensures promise { OnOk result (InputPromise input.now) }
 {
     let mut out = Vec::new(heap);
-    let (opening, at) = answer_until_open(input, &mut out)?;
-    let Some(opening) = opening else {
-        return Ok(out);
-    };
-    answer_opened(opening, &input[at..], &mut out)?;
+    let mut lines = Lines::new(input);
+    if let Some(opening) = answer_until_open(&mut lines, &mut out)? {
+        answer_after(opening, lines, &mut out)?;
+    }
     Ok(out)
 }

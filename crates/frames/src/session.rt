@@ -1,51 +1,43 @@
-// A line on an open book: what is called, and what is answered.
-ghost use Rattle.std.specs.Prelude.{◌≡◌, ◌≤◌, IfOk};
+// An open book: what a line calls, and what is answered.
+ghost use Rattle.std.specs.Prelude.{◌≡◌, ◌++◌, min, length, OnOk};
 ghost use Rattle.instruments.specs.Law.{ok_map};
+ghost use Rattle.curve.specs.Currencies.{span};
+ghost use Rattle.curve.specs.declared.terms.Terms.{Terms};
 ghost use Rattle.book.specs.Books.{call_means, register_of, Sound};
-ghost use Rattle.frames.specs.Reads.{bytes_read, kind_of, Answered};
-ghost use Rattle.frames.specs.Sessions.{line_read, frame_call, reply_answer, line_outcome};
+ghost use Rattle.book.specs.Promise.{Promise};
+ghost use Rattle.book.specs.Register.{opened};
+ghost use Rattle.frames.specs.Promises.{open_calls};
+ghost use Rattle.frames.specs.Reads.{bytes_read, kind_of};
+ghost use Rattle.frames.specs.Sessions.{line_read, frame_call, line_outcome, open_answers};
 
 use crate::answer::Answer;
 use crate::frame::Frame;
-use crate::hex::decode;
+use crate::hex::{Bytes, decode};
 use crate::letter::Letter;
+use crate::lines::Lines;
+use crate::opening::Opening;
 use book::call::Call;
-use book::running::Reply;
 use book::volume::Book;
 use instruments::class::Class;
 use instruments::kind::Instrument;
 use instruments::refusal::Refusal;
+use std::alloc::AllocError;
 
-// Reads a line's bytes, and its letter, or answers that it is refused unread.
-pub(crate) fn read_line(line: &[u8], bytes: &mut [u8; 10]) -> Result<(Letter, usize), Answer>
-    ensures read { ok_map (bytes_read bytes.new) result ≡ line_read line.now }
-    ensures short { IfOk result (λ x. x.1 ≤ 10) }
+// Reads a line's letter and its bytes, or answers that it is refused unread. Inlined, since its result is large to pass on.
+#[inline(always)]
+pub(crate) fn read_line(line: &[u8]) -> Result<(Letter, Bytes), Answer>
+    ensures { ok_map bytes_read result ≡ line_read line.now }
 {
-    let Some(count) = decode(line, bytes) else {
-        return Err(Answer::unread(Refusal::Malformed));
-    };
-    match Frame::letter(&bytes[0..count]) {
-        Ok(letter) => Ok((letter, count)),
-        Err(refusal) => Err(Answer::unread(refusal)),
-    }
-}
-
-// The answer to a call.
-fn answer(letter: Letter, reply: Reply) -> Answer
-    ensures { result ≡ reply_answer letter reply }
-{
-    match reply {
-        Ok(None) => Answer::accepted(letter),
-        Ok(Some((low, high))) => Answer::answered(letter, low, high),
-        Err(refusal) => Answer::refused(letter, refusal),
-    }
+    let bytes = decode(line).ok_or(Answer::unread(Refusal::Malformed))?;
+    let letter = Frame::letter(&bytes).map_err(Answer::unread)?;
+    Ok((letter, bytes))
 }
 
 // The call that a frame makes on an open book of a kind.
 fn call_of<K: Instrument>(class: Class, letter: Letter, bytes: &[u8]) -> Result<Call<K>, Refusal>
-    ensures { ok_map (call_means K.Instrument.means) result ≡ frame_call (kind_of K.Instrument.framed K.Instrument.read K.Instrument.making class) letter bytes.now }
+    ensures { ok_map (call_means K.means) result ≡ frame_call (kind_of K.framed K.read K.making class) letter bytes.now }
 {
-    if let Letter::Open = letter {
+    if letter == Letter::Open {
         return Err(Refusal::OutOfTurn);
     }
     match Frame::read(letter, bytes, K::frame_length())? {
@@ -65,21 +57,56 @@ fn call_of<K: Instrument>(class: Class, letter: Letter, bytes: &[u8]) -> Result<
     }
 }
 
-// The answer to a line on an open book.
-pub(crate) fn answer_on<'a, K: Instrument>(
-    book: &mut Book<'a, K>,
+// A book that is open, and the class of insurance that it values.
+#[derive(Drop)]
+pub(crate) struct Session<'a, K: Instrument> {
+    book: Book<'a, K>,
     class: Class,
-    line: &[u8],
-) -> Answer
-    ensures { Sound K.Instrument.read book.old → Answered K.Instrument.read (kind_of K.Instrument.framed K.Instrument.read K.Instrument.making class) book.old line.now result book.new }
-{
-    let mut bytes = [0; 10];
-    let (letter, count) = match read_line(line, &mut bytes) {
-        Ok(read) => read,
-        Err(refused) => return refused,
-    };
-    match call_of::<K>(class, letter, &bytes[0..count]) {
-        Ok(call) => answer(letter, book.call(call)),
-        Err(refusal) => Answer::refused(letter, refusal),
+}
+
+impl<'a, K: Instrument> Session<'a, K> {
+    // Opens a book that uses up to 60 places.
+    pub(crate) fn open(opening: Opening, places: &'a mut [K::Row]) -> Session<'a, K>
+        ensures class { result.class ≡ opening.class }
+        ensures register { register_of K.read result.book ≡ opened (span opening.terms) (min 60 (length places.old)) }
+        ensures sound { Sound K.read result.book }
+    {
+        Session {
+            book: Book::open(opening.terms, places),
+            class: opening.class,
+        }
+    }
+
+    // The answer to a line.
+    fn answer(&mut self, line: &[u8]) -> Answer
+        requires { Sound K.read self.old.book }
+        ensures sound { Sound K.read self.new.book }
+        ensures class { self.new.class ≡ self.old.class }
+        ensures outcome { (register_of K.read self.new.book, result) ≡ line_outcome (kind_of K.framed K.read K.making self.old.class) (register_of K.read self.old.book) line.now }
+    {
+        let (letter, bytes) = match read_line(line) {
+            Ok(read) => read,
+            Err(refused) => return refused,
+        };
+        match call_of::<K>(self.class, letter, &bytes) {
+            Ok(call) => Answer::replied(letter, self.book.call(call)),
+            Err(refusal) => Answer::refused(letter, refusal),
+        }
+    }
+
+    // Answers lines, one after another.
+    pub(crate) fn answer_lines(
+        &mut self,
+        lines: Lines<'_>,
+        out: &mut Vec<u8>,
+    ) -> Result<(), AllocError>
+        requires { Sound K.read self.old.book }
+        ensures answers { OnOk result (out.new.items ≡ out.old.items ++ open_answers (kind_of K.framed K.read K.making self.old.class) (register_of K.read self.old.book) lines.entry) }
+        ensures promise { (terms : Terms) → Promise (span terms) 60 (open_calls (kind_of K.framed K.read K.making self.old.class) lines.entry) }
+    {
+        for line in lines {
+            self.answer(line).write(out)?;
+        }
+        Ok(())
     }
 }

@@ -26,19 +26,21 @@ fn answers(rt: HostRuntime) -> Result<(), Fail> {
 }
 
 #[test]
-fn digits(rt: HostRuntime) {
-    let mut bytes = [0; 10];
-    assert_eq!(rt; decode(b"5aF0", &mut bytes), Some(2));
-    assert_eq!(rt; [bytes[0], bytes[1]], [0x5a, 0xf0]);
-    assert_eq!(rt; decode(b"00112233445566778899", &mut bytes), Some(10));
-    assert_eq!(rt; bytes[9], 0x99);
-    assert_eq!(rt; decode(b"", &mut bytes), None);
-    assert_eq!(rt; decode(b"5", &mut bytes), None);
-    assert_eq!(rt; decode(b"530", &mut bytes), None);
-    assert_eq!(rt; decode(b"5300\r", &mut bytes), None);
-    assert_eq!(rt; decode(b"530\r", &mut bytes), None);
-    assert_eq!(rt; decode(b"5G", &mut bytes), None);
-    assert_eq!(rt; decode(b"0011223344556677889900", &mut bytes), None);
+fn digits(rt: HostRuntime) -> Result<(), Fail> {
+    let bytes = decode(b"5aF0").ok_or("none")?;
+    assert_eq!(rt; bytes.len(), 2);
+    assert!(rt; bytes.as_slice() == [0x5a, 0xf0].as_slice());
+    let bytes = decode(b"00112233445566778899").ok_or("none")?;
+    assert_eq!(rt; bytes.len(), 10);
+    assert_eq!(rt; bytes.last(), Some(&0x99));
+    assert!(rt; decode(b"").is_none());
+    assert!(rt; decode(b"5").is_none());
+    assert!(rt; decode(b"530").is_none());
+    assert!(rt; decode(b"5300\r").is_none());
+    assert!(rt; decode(b"530\r").is_none());
+    assert!(rt; decode(b"5G").is_none());
+    assert!(rt; decode(b"0011223344556677889900").is_none());
+    Ok(())
 }
 
 #[test]
@@ -82,8 +84,8 @@ fn frames(rt: HostRuntime) -> Result<(), Fail> {
 #[test]
 fn letters(rt: HostRuntime) -> Result<(), Fail> {
     for byte in 0..=255u8 {
-        if let Some(letter) = Letter::of_byte(byte) {
-            assert_eq!(rt; letter.code(), byte);
+        if let Ok(letter) = Letter::try_from(byte) {
+            assert_eq!(rt; u8::from(letter), byte);
         }
     }
     match Frame::letter(&[0x3f]) {

@@ -1,15 +1,14 @@
-use Rattle.std.proofs.Common.{◌≡◌, ◌*◌, length, sym, ap, ◌∙◌, arith}
-use Rattle.std.proofs.lemmas.List.{take_all}
-use Rattle.frames.specs.Digits.{hex}
-use Rattle.frames.proofs.Spelled.{spelled_more}
+use Rattle.std.proofs.Common.{arith, lit<}
+use Rattle.frames.proofs.Spelled.{room, spelled_more}
 use Rattle.frames.proofs.digits.spell.Goals as goal
 
-pub loop-i-preserved : goal.loop-i-preserved
-loop-i-preserved c = spelled_more c.args.bytes.now c.loop-i.line c.loop-i.i c.loop-i-test.true (c.loop-i.auto.line ∙ c.requires) c.loop-i.invariant
+pub push-requires : goal.push-requires
+push-requires c = (lit< tt, omega (arith, room c.args.line.now.items c.loop-byte.line.items c.args.bytes.now c.loop-byte.byte-index c.loop-byte.invariant c.loop-byte-test.true c.requires))
 
-pub returns : goal.returns
-returns c =
-    let long : length c.loop-i.line ≡ 2 * length c.args.bytes.now = c.loop-i.auto.line ∙ c.requires in
-    sym (take_all (2 * c.loop-i.i) c.loop-i.line (omega arith))
-    ∙ c.loop-i.invariant
-    ∙ ap hex (take_all c.loop-i.i c.args.bytes.now c.loop-i-test.false)
+pub push-requires-in-loop-byte : goal.push-requires-in-loop-byte
+push-requires-in-loop-byte c = (lit< tt, omega (arith, c.push.ensures.len, room c.args.line.now.items c.loop-byte.line.items c.args.bytes.now c.loop-byte.byte-index c.loop-byte.invariant c.loop-byte-test.true c.requires))
+
+pub loop-byte-preserved : goal.loop-byte-preserved
+loop-byte-preserved c =
+    spelled_more c.args.line.now.items c.loop-byte.line.items c.push.new.self.items c.push-in-loop-byte.new.self.items c.args.bytes.now c.loop-byte.byte-index
+    c.loop-byte.invariant c.loop-byte-test.true c.push.ensures.items c.push-in-loop-byte.ensures.items

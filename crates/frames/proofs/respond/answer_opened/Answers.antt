@@ -1,20 +1,12 @@
-use Rattle.std.proofs.Common.{sym, subst, rules}
+use Rattle.std.proofs.Common.{subst}
 use Rattle.curve.specs.Currencies.{span}
 use Rattle.book.specs.Promise.{Promise}
-use Rattle.frames.specs.Inputs.{named_code, kind_for}
-use Rattle.frames.specs.Lines.{lines}
 use Rattle.frames.specs.Promises.{open_calls}
-use Rattle.frames.specs.declared.opening.Named.{Named}
+use Rattle.frames.specs.Reads.{kind_of}
 use Rattle.frames.proofs.respond.answer_opened.Goals as goal
 
-pub returns-in-Swap : goal.returns-in-Swap
-returns-in-Swap c =
+pub returns-clause-promise : goal.returns-clause-promise
+returns-clause-promise g c =
     let o = c.args.opening in
-    let owed : Named → Type 0 = λ kind. Promise (span o.terms) 60 (open_calls (kind_for (named_code kind) o.class) (lines c.args.input.now)) in
-    record { answers = search rules; promise = subst owed (sym c.in-Swap.is) (c.answer_lines.ensures.promise o.terms) }
-
-pub returns-in-Bond : goal.returns-in-Bond
-returns-in-Bond c =
-    let o = c.args.opening in
-    let owed : Named → Type 0 = λ kind. Promise (span o.terms) 60 (open_calls (kind_for (named_code kind) o.class) (lines c.args.input.now)) in
-    record { answers = search rules; promise = subst owed (sym c.in-Bond.is) (c.answer_lines-in-Bond.ensures.promise o.terms) }
+    subst (λ class. Promise (span o.terms) 60 (open_calls (kind_of g.K.Instrument.framed g.K.Instrument.read g.K.Instrument.making class) c.args.lines))
+    c.open.ensures.class (c.answer_lines.ensures.promise o.terms)
