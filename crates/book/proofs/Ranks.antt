@@ -1,8 +1,10 @@
 -- Where a maturity stands among quotations in rising order, and what is placed or taken out there.
-use Rattle.std.proofs.Common.{◌≡◌, ℕ, suc, ◌+◌, ◌<◌, ◌≤◌, Bool, true, false, cond, eqb, ltb, List, [], ◌∷◌, map, length, get_or, drop, sym, refl, ap, ◌∙◌, inl, inr, arith}
-use Rattle.std.proofs.lemmas.List.{at_drop_more, at_drop_all}
+use Rattle.std.proofs.Common.{◌≡◌, ℕ, suc, ◌+◌, ◌<◌, ◌≤◌, Bool, true, false, cond, not, eqb, ltb, nat_le, List, [], ◌∷◌, map, length, get_or, position, Some, None, sym, refl, ap, ◌∙◌, inl, inr, arith}
 use Rattle.std.proofs.lemmas.Bool.{cases_lt, cond-true, cond-false, lt-ltb, le-ltb, both_ways}
-use Rattle.std.specs.List.{insert, remove}
+use Rattle.std.proofs.lemmas.Bool.Decides.{nat_tests}
+use Rattle.std.proofs.lemmas.List.{length-map, get_or-map}
+use Rattle.std.proofs.lemmas.List.Sums.{prefix_len-le-length}
+use Rattle.std.specs.List.{insert, remove, position_or_len}
 use Rattle.instruments.specs.Law.{Meaning}
 use Rattle.book.specs.Books.{rank}
 use Rattle.book.specs.Register.{is_held, placed, taken_out}
@@ -24,38 +26,15 @@ module _ (m : ℕ) (x : Meaning) (xs : List Meaning) where
   unfolding is_held
   held_here h = cond-false (ltb x.maturity m) _ _ (le-ltb _ _ h)
 
--- the same at a place of a list of rows
-module _ {Row : Type 0} (read : Row → Meaning) (m : ℕ) (rows : List Row) (i : ℕ) (row : Row) (here : ℕ) (within : i < length rows) (is : row ≡ get_or rows i row) (maturity : here ≡ (read row).maturity) where
-  left : map read (drop i rows) ≡ read row ∷ map read (drop (i + 1) rows)
-  left = at_drop_more (map read) rows i row within ∙ ap (λ r. read r ∷ map read (drop (i + 1) rows)) (sym is)
-
-  pub rank_next : here < m → rank m (map read (drop i rows)) ≡ rank m (map read (drop (i + 1) rows)) + 1
-  rank_next h = ap (rank m) left ∙ rank_more m (read row) _ (omega arith)
-
-  pub rank_found : m ≤ here → rank m (map read (drop i rows)) ≡ 0
-  rank_found h = ap (rank m) left ∙ rank_here m (read row) _ (omega arith)
-
-  pub held_next : here < m → is_held m (map read (drop i rows)) ≡ is_held m (map read (drop (i + 1) rows))
-  held_next h = ap (is_held m) left ∙ held_more m (read row) _ (omega arith)
-
-  pub held_found : m ≤ here → is_held m (map read (drop i rows)) ≡ eqb here m
-  held_found h = ap (is_held m) left ∙ held_here m (read row) _ (omega arith) ∙ ap (λ k. eqb k m) (sym maturity)
-
-pub rank_none : {Row : Type 0} (read : Row → Meaning) (m : ℕ) (rows : List Row) (i : ℕ) → length rows ≤ i → rank m (map read (drop i rows)) ≡ 0
-unfolding rank
-rank_none read m rows i h = at_drop_all (λ r. rank m (map read r)) rows i h
-
-pub held_none : {Row : Type 0} (read : Row → Meaning) (m : ℕ) (rows : List Row) (i : ℕ) → length rows ≤ i → is_held m (map read (drop i rows)) ≡ false
-unfolding is_held
-held_none read m rows i h = at_drop_all (λ r. is_held m (map read r)) rows i h
-
 pub rank_within : (m : ℕ) (xs : List Meaning) → rank m xs ≤ length xs
 unfolding rank
-rank_within m [] = omega arith
-rank_within m (x ∷ xs) = elim (cases_lt x.maturity m) [
-  | inl less ↦ omega (arith, rank_more m x xs less, rank_within m xs)
-  | inr more ↦ omega (arith, rank_here m x xs more)
-]
+rank_within m xs = prefix_len-le-length _ xs
+
+one_more : {n : ℕ} → 1 + n ≡ suc n
+one_more = omega arith
+
+not_le : (m k : ℕ) → not (nat_le m k) ≡ ltb k m
+not_le m k = grind (arith, nat_tests)
 
 -- a maturity that is held stands at a place
 pub held_rank : (m : ℕ) (xs : List Meaning) → is_held m xs ≡ true → rank m xs < length xs
@@ -66,14 +45,43 @@ held_rank m (x ∷ xs) e = elim (cases_lt x.maturity m) [
   | inr more ↦ omega (arith, rank_here m x xs more)
 ]
 
+held_at : (m : ℕ) (xs : List Meaning) (x : Meaning) → rank m xs < length xs → is_held m xs ≡ eqb (get_or xs (rank m xs) x).maturity m
+unfolding is_held
+held_at m [] x h = absurd (omega arith)
+held_at m (y ∷ xs) x h = elim (cases_lt y.maturity m) [
+  | inl less ↦
+      let next : rank m (y ∷ xs) ≡ suc (rank m xs) = rank_more m y xs less ∙ omega arith in
+      held_more m y xs less ∙ held_at m xs x (omega arith) ∙ ap (λ k. eqb (get_or (y ∷ xs) k x).maturity m) (sym next)
+  | inr more ↦ held_here m y xs more ∙ ap (λ k. eqb (get_or (y ∷ xs) k x).maturity m) (sym (rank_here m y xs more))
+]
+
+-- what a search of rows from the front on tells
+module _ {Row : Type 0} (read : Row → Meaning) (m : ℕ) where
+  place : (rows : List Row) → position_or_len (λ row. nat_le m (read row).maturity) rows ≡ rank m (map read rows)
+  unfolding rank
+  place [] = refl
+  place (row ∷ rows) = λ i. cond (not_le m (read row).maturity i) (1 + place rows i) 0
+
+  module _ (rows : List Row) where
+    pub found : (at : ℕ) → Some at ≡ position (λ row. nat_le m (read row).maturity) rows → (at < length rows) × (at ≡ rank m (map read rows))
+    found at e = grind (arith, place rows, nat_tests, e)
+
+    pub not_found : None ≡ position (λ row. nat_le m (read row).maturity) rows → (is_held m (map read rows) ≡ false) × (length rows ≡ rank m (map read rows))
+    not_found e = grind (arith, place rows, nat_tests, rank_within m (map read rows), held_rank m (map read rows), length-map rows read, e)
+
+    pub held_there : (at : ℕ) (row : Row) → at ≡ rank m (map read rows) → at < length rows → row ≡ get_or rows at row → is_held m (map read rows) ≡ eqb (read row).maturity m
+    held_there at row there h is =
+        held_at m (map read rows) (read row) (omega (arith, length-map rows read))
+        ∙ ap (λ k. eqb (get_or (map read rows) k (read row)).maturity m) (sym there) ∙ ap (λ x. eqb x.maturity m) (get_or-map read rows at row (read row) h ∙ ap read (sym is))
+
 -- to place a quotation is to insert it at its rank
 pub placed_is : (y : Meaning) (xs : List Meaning) → insert xs (rank y.maturity xs) y ≡ placed y xs
 unfolding placed rank
 placed_is y [] = refl
 placed_is y (x ∷ xs) = go (placed_is y xs) (ltb x.maturity y.maturity)
   where
-    go : insert xs (rank y.maturity xs) y ≡ placed y xs → (b : Bool) → insert (x ∷ xs) (cond b (suc (rank y.maturity xs)) 0) y ≡ cond b (x ∷ placed y xs) (y ∷ (x ∷ xs))
-    go rest true = ap (λ l. x ∷ l) rest
+    go : insert xs (rank y.maturity xs) y ≡ placed y xs → (b : Bool) → insert (x ∷ xs) (cond b (1 + rank y.maturity xs) 0) y ≡ cond b (x ∷ placed y xs) (y ∷ (x ∷ xs))
+    go rest true = rw one_more (ap (λ l. x ∷ l) rest)
     go rest false = refl
 
 -- and to take one out is to remove what stands at its rank
@@ -82,6 +90,6 @@ unfolding taken_out rank
 taken_out_is m [] = refl
 taken_out_is m (x ∷ xs) = go (taken_out_is m xs) (ltb x.maturity m)
   where
-    go : remove xs (rank m xs) ≡ taken_out m xs → (b : Bool) → remove (x ∷ xs) (cond b (suc (rank m xs)) 0) ≡ cond b (x ∷ taken_out m xs) xs
-    go rest true = ap (λ l. x ∷ l) rest
+    go : remove xs (rank m xs) ≡ taken_out m xs → (b : Bool) → remove (x ∷ xs) (cond b (1 + rank m xs) 0) ≡ cond b (x ∷ taken_out m xs) xs
+    go rest true = rw one_more (ap (λ l. x ∷ l) rest)
     go rest false = refl

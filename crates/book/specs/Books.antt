@@ -1,12 +1,13 @@
 -- A book by its register.
-use Rattle.std.specs.Prelude.{◌≡◌, ℕ, suc, min, Bool, cond, List, [], ◌∷◌, map, length, take, ℤ, is_some, Some, None, Ok, Err, Option, Result, nat_lt}
+use Rattle.std.specs.Prelude.{◌≡◌, ℕ, min, Bool, cond, List, map, length, take, ℤ, is_some, IfSome, Some, None, Ok, Err, Option, Result, nat_lt}
+use Rattle.std.specs.List.{prefix_len}
 use Rattle.instruments.specs.Law.{Meaning}
+use Rattle.instruments.specs.declared.kind.Instrument.{Ghosts}
 use Rattle.instruments.specs.declared.refusal.Refusal.{Refusal}
 use Rattle.instruments.specs.declared.refusal.Refusal.TheVariants.{NotSettled}
 use Rattle.curve.specs.Currencies.{span}
 use Rattle.curve.specs.Settling.{settled}
 use Rattle.curve.specs.declared.discount.Curve.{Curve}
-use Rattle.curve.specs.declared.tables.Tables.{Tables}
 use Rattle.book.specs.Register.{Register, told, reply}
 use Rattle.book.specs.Rows.{entered, withdrawn}
 use Rattle.book.specs.declared.call.Call.{Call}
@@ -14,38 +15,32 @@ use Rattle.book.specs.declared.call.Call.TheVariants.{Enter, Withdraw, Post, Str
 use Rattle.book.specs.declared.volume.Book.{Book}
 
 -- what the places hold
-abbrev pub rows_of : {K Row : Type 0} → Book K Row → List Row
-rows_of b = b.places.rows.now
+abbrev pub rows_of : {K Row : Type 0} {g : Ghosts K Row} → Book K Row g → List Row
+rows_of b = b.rows.now
 
 -- the held quotations, made anew from their rows
-abbrev pub quotations_of : {K Row : Type 0} → (Row → Meaning) → Book K Row → List Meaning
-quotations_of read b = map read (take b.places.len (rows_of b))
+abbrev pub quotations_of : {K Row : Type 0} {g : Ghosts K Row} → (Row → Meaning) → Book K Row g → List Meaning
+quotations_of read b = map read (take b.len (rows_of b))
 
 -- the register of a book
-abbrev pub register_of : {K Row : Type 0} → (Row → Meaning) → Book K Row → Register
+abbrev pub register_of : {K Row : Type 0} {g : Ghosts K Row} → (Row → Meaning) → Book K Row g → Register
 register_of read b =
     record { span = span b.terms; usable = min 60 (length (rows_of b)); quotations = quotations_of read b; flows = b.flows.amounts; is_settled = is_some b.curve }
 
--- a curve that is kept is the one of the held quotations
-abbrev pub Current : Option Curve → Result Tables Refusal → Type 0
-Current None r = Unit {0}
-Current (Some c) r = Ok c.tables ≡ r
-
--- a book is sound if the curve that it keeps is current
-abbrev pub Sound : {K Row : Type 0} → (Row → Meaning) → Book K Row → Type 0
-Sound read b = Current b.curve (settled (span b.terms) (quotations_of read b))
+-- a book is sound if the curve that it keeps is the one of the held quotations; every book is
+abbrev pub Sound : {K Row : Type 0} {g : Ghosts K Row} → (Row → Meaning) → Book K Row g → Type 0
+Sound read b = IfSome b.curve (λ c. Ok c.tables ≡ settled (span b.terms) (quotations_of read b))
 
 -- how many rows of a list in rising order have a smaller maturity
 unfoldable pub rank : ℕ → List Meaning → ℕ
-rank m [] = 0
-rank m (x ∷ xs) = cond (nat_lt x.maturity m) (suc (rank m xs)) 0
+rank m xs = prefix_len (λ x. nat_lt x.maturity m) xs
 
 -- what the places hold after entering: the row in its place if it is accepted
-abbrev pub entered_rows : {K Row : Type 0} → (Row → Meaning) → Book K Row → Meaning → Row → Bool → List Row
+abbrev pub entered_rows : {K Row : Type 0} {g : Ghosts K Row} → (Row → Meaning) → Book K Row g → Meaning → Row → Bool → List Row
 entered_rows read b x row accepted = cond accepted (entered (rows_of b) (length (quotations_of read b)) (rank x.maturity (quotations_of read b)) row) (rows_of b)
 
 -- after withdrawing
-abbrev pub withdrawn_rows : {K Row : Type 0} → (Row → Meaning) → Book K Row → ℕ → Bool → List Row
+abbrev pub withdrawn_rows : {K Row : Type 0} {g : Ghosts K Row} → (Row → Meaning) → Book K Row g → ℕ → Bool → List Row
 withdrawn_rows read b m accepted = cond accepted (withdrawn (rows_of b) (length (quotations_of read b)) (rank m (quotations_of read b))) (rows_of b)
 
 -- a call that changes the book answers no figures
@@ -70,7 +65,7 @@ call_means means (Rate t) = Rate t
 call_means means Reserve = Reserve
 
 -- what the places hold after a call, by whether it is accepted
-abbrev pub rows_after : {K Row : Type 0} → (Row → Meaning) → (K → Row) → (K → Meaning) → Book K Row → Call K → Bool → List Row
+abbrev pub rows_after : {K Row : Type 0} {g : Ghosts K Row} → (Row → Meaning) → (K → Row) → (K → Meaning) → Book K Row g → Call K → Bool → List Row
 rows_after read row means b (Enter x) accepted = entered_rows read b (means x) (row x) accepted
 rows_after read row means b (Withdraw m) accepted = withdrawn_rows read b m accepted
 rows_after read row means b (Post t a) accepted = rows_of b
@@ -82,7 +77,7 @@ rows_after read row means b (Rate t) accepted = rows_of b
 rows_after read row means b Reserve accepted = rows_of b
 
 -- a call made on a sound book: the register is told it, the answer is the one defined, and the book stays sound
-pub record Kept {K Row : Type 0} (read : Row → Meaning) (before : Book K Row) (call : Call Meaning) (answer : Result (Option (ℤ × ℤ)) Refusal) (later : Book K Row) : Type 0 where
+pub record Kept {K Row : Type 0} {g : Ghosts K Row} (read : Row → Meaning) (before : Book K Row g) (call : Call Meaning) (answer : Result (Option (ℤ × ℤ)) Refusal) (later : Book K Row g) : Type 0 where
   pub register : register_of read later ≡ told (register_of read before) call
   pub replied : answer ≡ reply (register_of read before) call
   pub sound : Sound read later

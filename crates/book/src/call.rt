@@ -1,4 +1,6 @@
-// The calls on a book of one kind of instrument.
+// The calls on a book of one kind of instrument, and the answers to them.
+use instruments::refusal::Refusal;
+
 #[derive(Clone, Copy)]
 pub enum Call<K> {
     Enter(K),
@@ -11,3 +13,6 @@ pub enum Call<K> {
     Rate(u8),
     Reserve,
 }
+
+// The answer to a call: the figures of a question, none for a change, or why it is refused.
+pub type Reply = Result<Option<(i64, i64)>, Refusal>;

@@ -1,11 +1,18 @@
 // The flows by year.
-ghost use Rattle.std.specs.Prelude.{◌≡◌, ◌≤◌, true, length, replicate, is_some, Some, None, slice_index_or, slice_set};
+ghost use Rattle.std.specs.Prelude.{◌≡◌, replicate, if◌then◌else◌, not, is_ok, is_some, Some, None, Ok, slice_index_or, slice_set};
+ghost use Rattle.instruments.specs.Limits.{if_kept};
+ghost use Rattle.instruments.specs.declared.refusal.Refusal.TheVariants.{FlowHeld, NoFlow};
 
-// The amount of each year 0 to 120, where one is held.
+use crate::flow::{Flow, LAST_YEAR};
+use instruments::refusal::Refusal;
+
+// the years that a table has, from year 0 on
+const YEARS: usize = LAST_YEAR as usize + 1;
+
+// The amount of each year 0 to the last, where one is held.
 #[derive(Clone, Copy)]
-pub struct Table {
-    pub(crate) amounts: [Option<i32>; 121],
-    ghost long: { length amounts ≡ 121 },
+pub(crate) struct Table {
+    pub(crate) amounts: [Option<i32>; YEARS],
 }
 
 impl Table {
@@ -14,34 +21,32 @@ impl Table {
         ensures { result.amounts ≡ replicate 121 None }
     {
         Table {
-            amounts: [None; 121],
+            amounts: [None; YEARS],
         }
     }
 
-    // Whether a year holds a flow.
-    pub(crate) fn holds(&self, year: u8) -> bool
-        ensures value { result ≡ is_some (slice_index_or self.now.amounts year None) }
-        ensures within { result ≡ true → year ≤ 120 }
+    // Posts a flow, or refuses it where its year has one.
+    pub(crate) fn post(&mut self, flow: Flow) -> Result<(), Refusal>
+        ensures answer { result ≡ if_kept (not (is_some (slice_index_or self.old.amounts flow.year None))) (FlowHeld flow.year) (Ok tt) }
+        ensures amounts { self.new.amounts ≡ (if is_ok result then slice_set self.old.amounts flow.year (Some flow.amount) else self.old.amounts) }
     {
-        if year > 120 {
-            return false;
+        let held = &mut self.amounts[flow.year as usize];
+        if held.is_some() {
+            return Err(Refusal::FlowHeld(flow.year));
         }
-        self.amounts[year as usize].is_some()
+        *held = Some(flow.amount);
+        Ok(())
     }
 
-    // Puts the amount of a year.
-    pub(crate) fn put(&mut self, year: u8, amount: i32)
-        requires { year ≤ 120 }
-        ensures { self.new.amounts ≡ slice_set self.old.amounts year (Some amount) }
+    // Strikes the flow of a year, or refuses where there is none.
+    pub(crate) fn strike(&mut self, year: u8) -> Result<(), Refusal>
+        ensures answer { result ≡ if_kept (is_some (slice_index_or self.old.amounts year None)) (NoFlow year) (Ok tt) }
+        ensures amounts { self.new.amounts ≡ (if is_ok result then slice_set self.old.amounts year None else self.old.amounts) }
     {
-        self.amounts[year as usize] = Some(amount);
-    }
-
-    // Takes the amount of a year out.
-    pub(crate) fn clear(&mut self, year: u8)
-        requires { year ≤ 120 }
-        ensures { self.new.amounts ≡ slice_set self.old.amounts year None }
-    {
+        let Some(Some(_)) = self.amounts.get(year as usize) else {
+            return Err(Refusal::NoFlow(year));
+        };
         self.amounts[year as usize] = None;
+        Ok(())
     }
 }

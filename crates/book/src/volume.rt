@@ -1,15 +1,210 @@
-// What a book holds.
-use crate::places::Places;
+// A book: quotations of one kind in places that the caller lends, yearly cash flows, and the calls on them.
+ghost use Rattle.std.specs.Prelude.{◌≡◌, ◌≤◌, length, map, take, Ok, IfSome};
+ghost use Rattle.std.proofs.Props.{props};
+ghost use Rattle.curve.specs.Currencies.{span};
+ghost use Rattle.curve.specs.Settling.{settled};
+
+use crate::call::{Call, Reply};
+use crate::flow::Flow;
 use crate::table::Table;
 use curve::discount::Curve;
+use curve::settle::settle;
 use curve::terms::Terms;
 use instruments::kind::Instrument;
+use instruments::refusal::Refusal;
 
-// Quotations of one kind in lent places, flows by year, and, where the book is settled, the curve of its quotations.
+// at most so many places are used
+const MOST_PLACES: usize = 60;
+
+// The quotations stand as rows in the first `len` places, in rising order of maturity. A settled book keeps their curve.
 #[derive(Drop)]
 pub struct Book<'a, K: Instrument> {
-    pub(crate) terms: Terms,
-    pub(crate) places: Places<'a, K::Row>,
-    pub(crate) flows: Table,
-    pub(crate) curve: Option<Curve>,
+    terms: Terms,
+    rows: &'a mut [K::Row],
+    len: usize,
+    flows: Table,
+    curve: Option<Curve>,
+    ghost within: { len ≤ length rows.now },
+    ghost sound: { IfSome curve (λ c. Ok c.tables ≡ settled (span terms) (map K.read (take len rows.now))) } by { Prim.hlevel props },
+}
+
+impl<'a, K: Instrument> Book<'a, K> {
+    ghost use Rattle.std.specs.Prelude.{◌<◌, min, is_ok, IfOk, IfErr, Some, nat_le};
+    ghost use Rattle.std.specs.List.{position};
+    ghost use Rattle.instruments.specs.Law.{ok_map};
+    ghost use Rattle.book.specs.Books.{rows_of, quotations_of, register_of, rank, entered_rows, withdrawn_rows, no_figures, kept_curve, call_means, rows_after, Kept};
+    ghost use Rattle.book.specs.Register.{opened, is_held, told, reply};
+    ghost use Rattle.book.specs.declared.call.Call.TheVariants.{Enter, Withdraw, Post, Strike, Settle, Forward, Factor, Rate, Reserve};
+
+    // A book on the given terms that holds nothing; its places keep what they had.
+    pub fn open(terms: Terms, rows: &'a mut [K::Row]) -> Book<'a, K>
+        ensures register { register_of K.read result ≡ opened (span terms) (min 60 (length rows.old)) }
+        ensures places { rows_of result ≡ rows.old }
+    {
+        Book {
+            terms,
+            rows,
+            len: 0,
+            flows: Table::empty(),
+            curve: None,
+        }
+    }
+
+    // The rows held.
+    fn held(&self) -> &[K::Row]
+        ensures { result.now ≡ take self.now.len (rows_of self.now) }
+    {
+        &self.rows[..self.len]
+    }
+
+    // The first place held whose quotation has no smaller maturity.
+    fn first_from(&self, maturity: u8) -> Option<usize>
+        ensures { result ≡ position (λ row. nat_le maturity (K.read row).maturity) (take self.now.len (rows_of self.now)) }
+    {
+        self.held()
+            .iter()
+            .position(|row| maturity_of::<K>(row) >= maturity)
+    }
+
+    // Where the quotation of a maturity stands among those held, or, as an error, where one would go.
+    fn find(&self, maturity: u8) -> Result<usize, usize>
+        ensures held { is_ok result ≡ is_held maturity (quotations_of K.read self.now) }
+        ensures ok { IfOk result (λ at. (at ≡ rank maturity (quotations_of K.read self.now)) × (at < self.now.len)) }
+        ensures err { IfErr result (λ at. (at ≡ rank maturity (quotations_of K.read self.now)) × (at ≤ self.now.len)) }
+    {
+        let held = self.held();
+        match self.first_from(maturity) {
+            Some(at) if maturity_of::<K>(&held[at]) == maturity => Ok(at),
+            Some(at) => Err(at),
+            None => Err(self.len),
+        }
+    }
+
+    // Enters a quotation in its place. It unsettles the book.
+    pub fn enter(&mut self, quotation: K) -> Result<(), Refusal>
+        ensures register { register_of K.read self.new ≡ told (register_of K.read self.old) (Enter (K.means quotation)) }
+        ensures answer { ok_map no_figures result ≡ reply (register_of K.read self.old) (Enter (K.means quotation)) }
+        ensures places { rows_of self.new ≡ entered_rows K.read self.old (K.means quotation) (K.Instrument.row quotation) (is_ok result) }
+    {
+        let maturity = quotation.maturity();
+        if self.terms.converged(maturity) {
+            return Err(Refusal::AfterConvergence(maturity));
+        }
+        let Err(at) = self.find(maturity) else {
+            return Err(Refusal::MaturityHeld(maturity));
+        };
+        if self.len >= MOST_PLACES.min(self.rows.len()) {
+            return Err(Refusal::NoPlaceLeft(maturity));
+        }
+        let row = quotation.to_row();
+        self.curve = None; // its figures lack the new quotation
+        self.rows.copy_within(at..self.len, at + 1);
+        self.rows[at] = row;
+        self.len += 1;
+        Ok(())
+    }
+
+    // Takes the quotation of a maturity out. It unsettles the book.
+    pub fn withdraw(&mut self, maturity: u8) -> Result<(), Refusal>
+        ensures register { register_of K.read self.new ≡ told (register_of K.read self.old) (Withdraw maturity) }
+        ensures answer { ok_map no_figures result ≡ reply (register_of K.read self.old) (Withdraw maturity) }
+        ensures places { rows_of self.new ≡ withdrawn_rows K.read self.old maturity (is_ok result) }
+    {
+        let Ok(at) = self.find(maturity) else {
+            return Err(Refusal::NoneHeld(maturity));
+        };
+        self.curve = None; // its figures rest on the quotation withdrawn
+        self.rows.copy_within(at + 1..self.len, at);
+        self.len -= 1;
+        Ok(())
+    }
+
+    // Posts the flow of a year.
+    pub fn post(&mut self, year: u8, amount: i32) -> Result<(), Refusal>
+        ensures register { register_of K.read self.new ≡ told (register_of K.read self.old) (Post year amount) }
+        ensures answer { ok_map no_figures result ≡ reply (register_of K.read self.old) (Post year amount) }
+        ensures places { rows_of self.new ≡ rows_of self.old }
+    {
+        self.flows.post(Flow::new(year, amount)?)
+    }
+
+    // Strikes the flow of a year.
+    pub fn strike(&mut self, year: u8) -> Result<(), Refusal>
+        ensures register { register_of K.read self.new ≡ told (register_of K.read self.old) (Strike year) }
+        ensures answer { ok_map no_figures result ≡ reply (register_of K.read self.old) (Strike year) }
+        ensures places { rows_of self.new ≡ rows_of self.old }
+    {
+        self.flows.strike(year)
+    }
+
+    // Settles the book: from here on it answers questions by the curve of its quotations.
+    pub fn settle(&mut self) -> Result<(), Refusal>
+        ensures register { register_of K.read self.new ≡ told (register_of K.read self.old) Settle }
+        ensures answer { ok_map no_figures result ≡ reply (register_of K.read self.old) Settle }
+        ensures places { rows_of self.new ≡ rows_of self.old }
+    {
+        let curve = settle::<K>(&self.terms, self.held())?;
+        self.curve = Some(curve);
+        Ok(())
+    }
+
+    // The curve of a settled book.
+    fn settled(&self) -> Result<&Curve, Refusal>
+        ensures { ok_map (λ x. x.now) result ≡ kept_curve self.now.curve }
+    {
+        self.curve.as_ref().ok_or(Refusal::NotSettled)
+    }
+
+    // The forwards of a year, low and high, in units.
+    pub fn forward(&self, year: u8) -> Result<(i64, i64), Refusal>
+        ensures { ok_map Some result ≡ reply (register_of K.read self.now) (Forward year) }
+    {
+        self.settled()?.forward(year)
+    }
+
+    // The discount factors of a year, low and high, in units.
+    pub fn factor(&self, year: u8) -> Result<(i64, i64), Refusal>
+        ensures { ok_map Some result ≡ reply (register_of K.read self.now) (Factor year) }
+    {
+        self.settled()?.factor(year)
+    }
+
+    // The zero rates of a year, low and high, in units.
+    pub fn rate(&self, year: u8) -> Result<(i64, i64), Refusal>
+        ensures { ok_map Some result ≡ reply (register_of K.read self.now) (Rate year) }
+    {
+        self.settled()?.rate(year)
+    }
+
+    // The reserve, low and high, in hundredths of a krona.
+    pub fn reserve(&self) -> Result<(i64, i64), Refusal>
+        ensures { ok_map Some result ≡ reply (register_of K.read self.now) Reserve }
+    {
+        self.settled()?.reserve(&self.flows.amounts)
+    }
+
+    // Makes a call.
+    pub fn call(&mut self, call: Call<K>) -> Reply
+        ensures kept { Kept K.read self.old (call_means K.means call) result self.new }
+        ensures places { rows_of self.new ≡ rows_after K.read K.Instrument.row K.means self.old call (is_ok result) }
+    {
+        match call {
+            Call::Enter(quotation) => self.enter(quotation).map(|()| None),
+            Call::Withdraw(maturity) => self.withdraw(maturity).map(|()| None),
+            Call::Post(year, amount) => self.post(year, amount).map(|()| None),
+            Call::Strike(year) => self.strike(year).map(|()| None),
+            Call::Settle => self.settle().map(|()| None),
+            Call::Forward(year) => self.forward(year).map(Some),
+            Call::Factor(year) => self.factor(year).map(Some),
+            Call::Rate(year) => self.rate(year).map(Some),
+            Call::Reserve => self.reserve().map(Some),
+        }
+    }
+}
+
+// The maturity of the quotation that a row stands for.
+fn maturity_of<K: Instrument>(row: &K::Row) -> u8
+    ensures { result ≡ (K.read row.now).maturity }
+{
+    K::of_row(*row).maturity()
 }

@@ -29,11 +29,9 @@ pub loop-call-preserved : goal.loop-call-preserved
 loop-call-preserved g c =
     let read = g.K.Instrument.read in
     let means = call_means g.K.Instrument.means in
-    let kept = c.call.ensures.kept c.loop-call.invariant.1 in
-    let more = turn means c.args.calls.now c.loop-call.call-index c.call-item.result (register_of read c.loop-call.book) (register_of read c.call.new.self) c.loop-call.replies.items c.call.result c.loop-call-test.true c.call-item.is kept.register kept.replied in (
-      ap (λ l. l ++ replies (register_of read c.call.new.self) (map means (drop (c.loop-call.call-index + 1) c.args.calls.now))) c.in_ok-push.ensures.items ∙ more ∙ c.loop-call.invariant.0,
-      kept.sound,
-    )
+    let kept = c.call.ensures.kept in
+    let more = turn means c.args.calls.now c.loop-call.call-index c.call-item.result (register_of read c.loop-call.book) (register_of read c.call.new.self) c.loop-call.replies.items c.call.result c.loop-call-test.true c.call-item.is kept.register kept.replied in
+    ap (λ l. l ++ replies (register_of read c.call.new.self) (map means (drop (c.loop-call.call-index + 1) c.args.calls.now))) c.in_ok-push.ensures.items ∙ more ∙ c.loop-call.invariant
 
 pub returns : goal.returns
 returns g c =
@@ -43,6 +41,6 @@ returns g c =
     let none : items ++ replies (register_of read c.loop-call.book) (map means (drop c.loop-call.call-index c.args.calls.now)) ≡ items =
     ap (λ l. items ++ l) (at_drop_all (λ l. replies (register_of read c.loop-call.book) (map means l)) c.args.calls.now c.loop-call.call-index c.loop-call-test.false) ∙ append-nil items in
     record {
-      answers = sym none ∙ c.loop-call.invariant.0 ∙ ap (λ R. replies R (map means c.args.calls.now)) c.open-book.ensures.register;
+      answers = sym none ∙ c.loop-call.invariant ∙ ap (λ R. replies R (map means c.args.calls.now)) c.open-book.ensures.register;
       promise = promised c.args.terms.blend (min 60 (length c.args.rows.now)) _ (lawful_calls g.K.Instrument.means g.met.K.Instrument.lawful c.args.calls.now);
     }

@@ -1,5 +1,5 @@
 use Rattle.std.proofs.Common.{◌≡◌, ◌++◌, map, drop, vec_items}
-use Rattle.book.specs.Books.{register_of, call_means, Sound}
+use Rattle.book.specs.Books.{register_of, call_means}
 use Rattle.book.specs.Promise.{replies}
 use Rattle.book.proofs.running.run.Given as goal
 
@@ -8,5 +8,4 @@ abbrev pub invariant-loop-call : goal.invariant-loop-call
 invariant-loop-call g l =
     let read = g.K.Instrument.read in
     let means = call_means g.K.Instrument.means in
-    (vec_items l.replies ++ replies (register_of read l.book) (map means (drop l.call-index l.calls)) ≡ replies (register_of read l.initial.book) (map means l.calls))
-    × Sound read l.book
+    vec_items l.replies ++ replies (register_of read l.book) (map means (drop l.call-index l.calls)) ≡ replies (register_of read l.initial.book) (map means l.calls)
