@@ -13,24 +13,9 @@ use crate::open::answer_until_open;
 use crate::opening::{Named, Opening};
 use crate::session::Session;
 use instruments::bond::{Bond, BondRow};
-use instruments::class::Class;
 use instruments::kind::Instrument;
 use instruments::swap::{Swap, SwapRow};
 use std::alloc::{AllocError, Global};
-
-// What fills the places of a book of swaps before it uses them: they are lent, and a row is plain numbers.
-const NO_SWAP: SwapRow = SwapRow {
-    maturity: 0,
-    quotation: 0,
-    class: Class::OccupationalPension,
-};
-
-// The same of a book of bonds.
-const NO_BOND: BondRow = BondRow {
-    maturity: 0,
-    price: 0,
-    coupon: 0,
-};
 
 // Opens a book of one kind of instrument in 60 places, and answers the lines that follow its opening.
 fn answer_opened<K: Instrument>(
@@ -52,8 +37,8 @@ fn answer_after(opening: Opening, lines: Lines<'_>, out: &mut Vec<u8>) -> Result
     ensures promise { PromiseLeft (Some opening) lines.entry }
 {
     match opening.kind {
-        Named::Swap => answer_opened::<Swap>(&mut [NO_SWAP; 60], opening, lines, out),
-        Named::Bond => answer_opened::<Bond>(&mut [NO_BOND; 60], opening, lines, out),
+        Named::Swap => answer_opened::<Swap>(&mut [SwapRow::default(); 60], opening, lines, out),
+        Named::Bond => answer_opened::<Bond>(&mut [BondRow::default(); 60], opening, lines, out),
     }
 }
 

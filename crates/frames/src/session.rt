@@ -3,7 +3,7 @@ ghost use Rattle.std.specs.Prelude.{◌≡◌, ◌++◌, min, length, OnOk};
 ghost use Rattle.instruments.specs.Law.{ok_map};
 ghost use Rattle.curve.specs.Currencies.{span};
 ghost use Rattle.curve.specs.declared.terms.Terms.{Terms};
-ghost use Rattle.book.specs.Books.{call_means, register_of, Sound};
+ghost use Rattle.book.specs.Books.{call_means, register_of};
 ghost use Rattle.book.specs.Promise.{Promise};
 ghost use Rattle.book.specs.Register.{opened};
 ghost use Rattle.frames.specs.Promises.{open_calls};
@@ -69,7 +69,6 @@ impl<'a, K: Instrument> Session<'a, K> {
     pub(crate) fn open(opening: Opening, places: &'a mut [K::Row]) -> Session<'a, K>
         ensures class { result.class ≡ opening.class }
         ensures register { register_of K.read result.book ≡ opened (span opening.terms) (min 60 (length places.old)) }
-        ensures sound { Sound K.read result.book }
     {
         Session {
             book: Book::open(opening.terms, places),
@@ -79,8 +78,6 @@ impl<'a, K: Instrument> Session<'a, K> {
 
     // The answer to a line.
     fn answer(&mut self, line: &[u8]) -> Answer
-        requires { Sound K.read self.old.book }
-        ensures sound { Sound K.read self.new.book }
         ensures class { self.new.class ≡ self.old.class }
         ensures outcome { (register_of K.read self.new.book, result) ≡ line_outcome (kind_of K.framed K.read K.making self.old.class) (register_of K.read self.old.book) line.now }
     {
@@ -100,7 +97,6 @@ impl<'a, K: Instrument> Session<'a, K> {
         lines: Lines<'_>,
         out: &mut Vec<u8>,
     ) -> Result<(), AllocError>
-        requires { Sound K.read self.old.book }
         ensures answers { OnOk result (out.new.items ≡ out.old.items ++ open_answers (kind_of K.framed K.read K.making self.old.class) (register_of K.read self.old.book) lines.entry) }
         ensures promise { (terms : Terms) → Promise (span terms) 60 (open_calls (kind_of K.framed K.read K.making self.old.class) lines.entry) }
     {

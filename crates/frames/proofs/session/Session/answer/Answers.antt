@@ -10,4 +10,4 @@ returns-in-Err-call_of g c =
     let R = register_of g.K.Instrument.read c.args.self.now.book in
     let l = c.in-Ok.read.0 in
     let called = c.in-Err-call_of.ensures ∙ ap (frame_call k l) c.deref.ensures.0 in
-    record { sound = c.requires; class = refl; outcome = ap (λ a. (R, a)) c.refused.ensures ∙ ap (call_outcome R l) called ∙ ap (read_outcome k R) c.in-Ok.ensures }
+    record { class = refl; outcome = ap (λ a. (R, a)) c.refused.ensures ∙ ap (call_outcome R l) called ∙ ap (read_outcome k R) c.in-Ok.ensures }

@@ -19,7 +19,6 @@ loop-line-preserved g c =
           (c.answer.ensures.outcome ∙ ap (λ class. line_outcome (kind class) R line) same) c.in-Some.ensures.steps c.in_ok-write.ensures
           ∙ c.loop-line.invariant.0,
       c.answer.ensures.class ∙ same,
-      c.answer.ensures.sound,
     )
 
 pub returns-clause-answers : goal.returns-clause-answers

@@ -1,5 +1,5 @@
 use Rattle.std.proofs.Common.{◌≡◌, ◌++◌, vec_items}
-use Rattle.book.specs.Books.{register_of, Sound}
+use Rattle.book.specs.Books.{register_of}
 use Rattle.frames.specs.Reads.{kind_of}
 use Rattle.frames.specs.Sessions.{open_answers}
 use Rattle.frames.proofs.session.Session.answer_lines.Given as goal
@@ -11,4 +11,3 @@ invariant-loop-line g l =
     let k = kind_of g.K.Instrument.framed read g.K.Instrument.making l.initial.self.class in
     (vec_items l.out ++ open_answers k (register_of read l.self.book) l.line-iterator ≡ vec_items l.initial.out ++ open_answers k (register_of read l.initial.self.book) l.fn.lines)
     × (l.self.class ≡ l.initial.self.class)
-    × Sound read l.self.book
