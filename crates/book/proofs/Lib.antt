@@ -1,4 +1,3 @@
-pub mod Outcomes
 pub mod Quoted
 pub mod Ranks
 pub mod Shifts

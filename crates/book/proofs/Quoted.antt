@@ -1,6 +1,6 @@
 -- The quotations after a row is entered or withdrawn.
-use Rattle.std.proofs.Common.{◌≡◌, ℕ, suc, ◌+◌, ◌-◌, ◌<◌, ◌≤◌, List, ◌∷◌, ◌++◌, map, length, take, drop, sym, ap, ◌∙◌, arith}
-use Rattle.std.proofs.lemmas.List.{length-take, length-take-le, length-drop, length-append, length-map, map-append, take-map, drop-map}
+use Rattle.std.proofs.Common.{◌≡◌, ℕ, suc, ◌+◌, ◌-◌, ◌<◌, ◌≤◌, List, ◌∷◌, ◌++◌, map, length, take, drop, sym, ap, ◌∙◌}
+use Rattle.std.proofs.lemmas.List.{length-take-le, length-map, map-append, take-map, drop-map}
 use Rattle.std.specs.List.{insert, remove}
 use Rattle.instruments.specs.Law.{Meaning}
 use Rattle.book.specs.Books.{rank}
@@ -25,20 +25,8 @@ module _ {Row : Type 0} (read : Row → Meaning) (rows : List Row) (len at : ℕ
         ap (map read) (entered_used rows len at row h room) ∙ map_inserted read (take len rows) at row
         ∙ ap (λ k. insert (map read (take len rows)) k (read row)) there ∙ placed_is (read row) (map read (take len rows))
 
-    pub entered_long : length (entered rows len at row) ≡ length rows
-    entered_long =
-        let B = take (len - at) (drop at rows) in
-        length-append (take at rows) (row ∷ (B ++ drop (len + 1) rows))
-        ∙ omega (arith, length-append B (drop (len + 1) rows), length-take at rows, length-take (len - at) (drop at rows), length-drop at rows, length-drop (len + 1) rows)
-
   module _ (h : at < len) (within : len ≤ length rows) where
     pub withdrawn_quoted : (m : ℕ) → at ≡ rank m (map read (take len rows)) → map read (take (len - 1) (withdrawn rows len at)) ≡ taken_out m (map read (take len rows))
     withdrawn_quoted m there =
         ap (map read) (withdrawn_used rows len at h within) ∙ map_removed read (take len rows) at
         ∙ ap (remove (map read (take len rows))) there ∙ taken_out_is m (map read (take len rows))
-
-    pub withdrawn_long : length (withdrawn rows len at) ≡ length rows
-    withdrawn_long =
-        let B = take (len - (at + 1)) (drop (at + 1) rows) in
-        length-append (take at rows) (B ++ drop (len - 1) rows)
-        ∙ omega (arith, length-append B (drop (len - 1) rows), length-take at rows, length-take (len - (at + 1)) (drop (at + 1) rows), length-drop (at + 1) rows, length-drop (len - 1) rows)

@@ -63,16 +63,20 @@ module _ {Row : Type 0} (read : Row → Meaning) (m : ℕ) where
   place (row ∷ rows) = λ i. cond (not_le m (read row).maturity i) (1 + place rows i) 0
 
   module _ (rows : List Row) where
-    pub found : (at : ℕ) → Some at ≡ position (λ row. nat_le m (read row).maturity) rows → (at < length rows) × (at ≡ rank m (map read rows))
-    found at e = grind (arith, place rows, nat_tests, e)
-
     pub not_found : None ≡ position (λ row. nat_le m (read row).maturity) rows → (is_held m (map read rows) ≡ false) × (length rows ≡ rank m (map read rows))
     not_found e = grind (arith, place rows, nat_tests, rank_within m (map read rows), held_rank m (map read rows), length-map rows read, e)
 
-    pub held_there : (at : ℕ) (row : Row) → at ≡ rank m (map read rows) → at < length rows → row ≡ get_or rows at row → is_held m (map read rows) ≡ eqb (read row).maturity m
-    held_there at row there h is =
-        held_at m (map read rows) (read row) (omega (arith, length-map rows read))
-        ∙ ap (λ k. eqb (get_or (map read rows) k (read row)).maturity m) (sym there) ∙ ap (λ x. eqb x.maturity m) (get_or-map read rows at row (read row) h ∙ ap read (sym is))
+    module _ (at : ℕ) (e : Some at ≡ position (λ row. nat_le m (read row).maturity) rows) where
+      found : (at < length rows) × (at ≡ rank m (map read rows))
+      found = grind (arith, place rows, nat_tests, e)
+
+      pub stands : (row : Row) → row ≡ get_or rows at row → (is_held m (map read rows) ≡ eqb (read row).maturity m) × (at ≡ rank m (map read rows)) × (at < length rows)
+      stands row is = (
+        held_at m (map read rows) (read row) (omega (arith, found, length-map rows read))
+            ∙ ap (λ k. eqb (get_or (map read rows) k (read row)).maturity m) (sym found.1) ∙ ap (λ x. eqb x.maturity m) (get_or-map read rows at row (read row) found.0 ∙ ap read (sym is)),
+        found.1,
+        found.0,
+      )
 
 -- to place a quotation is to insert it at its rank
 pub placed_is : (y : Meaning) (xs : List Meaning) → insert xs (rank y.maturity xs) y ≡ placed y xs

@@ -1,27 +1,19 @@
 -- What entering and withdrawing leave in the places, and in those that are used.
-use Rattle.std.proofs.Common.{◌≡◌, ℕ, suc, ◌+◌, ◌-◌, ◌<◌, ◌≤◌, min, List, [], ◌∷◌, ◌++◌, length, get_or, take, drop, set, sym, ap, ◌∙◌, inl, inr, add-one, arith}
+use Rattle.std.proofs.Common.{◌≡◌, ℕ, suc, ◌+◌, ◌-◌, ◌<◌, ◌≤◌, List, [], ◌∷◌, ◌++◌, length, get_or, take, drop, set, sym, ap, ◌∙◌, add-one, arith}
 use lib.Seq.{paste}
-use Rattle.std.proofs.lemmas.List.{append_assoc, length-take, length-take-le, length-drop, length-append, take_more, take_all, take-take, take_at, drop-take, set_at}
-use Rattle.std.proofs.lemmas.Bool.{cases_lt}
-use Rattle.std.specs.List.{insert, remove}
+use Rattle.std.proofs.lemmas.List.{append_assoc, length-take, length-take-le, length-drop, length-append, take_more, take-take, take_at, drop-take, set_at}
+use Rattle.std.specs.List.{copy_within, insert, remove}
 use Rattle.book.specs.Rows.{entered, withdrawn}
 
 module _ {R : Type 0} (rows : List R) (len : ℕ) where
-  -- a part as long as the rows, or longer, is all of them
-  pub take_min : (n : ℕ) → n ≡ min len (length rows) → take (n - 0) rows ≡ take len rows
-  take_min n e = elim (cases_lt len (length rows)) [
-    | inl less ↦ let same : n - 0 ≡ len = omega arith in ap (λ k. take k rows) same
-    | inr more ↦ take_all (n - 0) rows (omega arith) ∙ sym (take_all len rows more)
-  ]
-
   module _ (at : ℕ) where
-    pub cut_is : at < len → paste rows at (drop (at + 1) rows) (len - (at + 1)) ≡ withdrawn rows len at
+    pub cut_is : at < len → copy_within rows (at + 1) len at ≡ withdrawn rows len at
     cut_is h =
         let e : at + (len - (at + 1)) ≡ len - 1 = omega arith in
         append_assoc (take at rows) (take (len - (at + 1)) (drop (at + 1) rows)) (drop (at + (len - (at + 1))) rows)
         ∙ ap (λ k. take at rows ++ (take (len - (at + 1)) (drop (at + 1) rows) ++ drop k rows)) e
 
-    pub put_is : (row : R) → at ≤ len → len < length rows → set (paste rows (at + 1) (drop at rows) (len - at)) at row ≡ entered rows len at row
+    pub put_is : (row : R) → at ≤ len → len < length rows → set (copy_within rows at len (at + 1)) at row ≡ entered rows len at row
     put_is row h within =
         let B = take (len - at) (drop at rows) in
         let e : at + 1 + (len - at) ≡ len + 1 = omega arith in

@@ -1,5 +1,6 @@
 // A book: quotations of one kind in places that the caller lends, yearly cash flows, and the calls on them.
-ghost use Rattle.std.specs.Prelude.{◌≡◌, ◌≤◌, length, map, take, Ok, IfSome};
+ghost use Rattle.std.specs.Prelude.{◌≡◌, ◌≤◌, length, map, take, Ok, IfSome, nat_le};
+ghost use Rattle.std.specs.List.{position};
 ghost use Rattle.std.proofs.Props.{props};
 ghost use Rattle.curve.specs.Currencies.{span};
 ghost use Rattle.curve.specs.Settling.{settled};
@@ -29,14 +30,14 @@ pub struct Book<'a, K: Instrument> {
 }
 
 impl<'a, K: Instrument> Book<'a, K> {
-    ghost use Rattle.std.specs.Prelude.{◌<◌, min, is_ok, IfOk, IfErr, Some, nat_le};
-    ghost use Rattle.std.specs.List.{position};
+    ghost use Rattle.std.specs.Prelude.{◌<◌, min, is_ok, IfOk, IfErr, Some};
     ghost use Rattle.instruments.specs.Law.{ok_map};
     ghost use Rattle.book.specs.Books.{rows_of, quotations_of, register_of, rank, entered_rows, withdrawn_rows, no_figures, kept_curve, call_means, rows_after, Kept};
     ghost use Rattle.book.specs.Register.{opened, is_held, told, reply};
     ghost use Rattle.book.specs.declared.call.Call.TheVariants.{Enter, Withdraw, Post, Strike, Settle, Forward, Factor, Rate, Reserve};
 
     // A book on the given terms that holds nothing; its places keep what they had.
+    #[tactic(auto, unfolding(crate::specs::Register::opened))]
     pub fn open(terms: Terms, rows: &'a mut [K::Row]) -> Book<'a, K>
         ensures register { register_of K.read result ≡ opened (span terms) (min 60 (length rows.old)) }
         ensures places { rows_of result ≡ rows.old }
@@ -57,15 +58,6 @@ impl<'a, K: Instrument> Book<'a, K> {
         &self.rows[..self.len]
     }
 
-    // The first place held whose quotation has no smaller maturity.
-    fn first_from(&self, maturity: u8) -> Option<usize>
-        ensures { result ≡ position (λ row. nat_le maturity (K.read row).maturity) (take self.now.len (rows_of self.now)) }
-    {
-        self.held()
-            .iter()
-            .position(|row| maturity_of::<K>(row) >= maturity)
-    }
-
     // Where the quotation of a maturity stands among those held, or, as an error, where one would go.
     fn find(&self, maturity: u8) -> Result<usize, usize>
         ensures held { is_ok result ≡ is_held maturity (quotations_of K.read self.now) }
@@ -73,14 +65,15 @@ impl<'a, K: Instrument> Book<'a, K> {
         ensures err { IfErr result (λ at. (at ≡ rank maturity (quotations_of K.read self.now)) × (at ≤ self.now.len)) }
     {
         let held = self.held();
-        match self.first_from(maturity) {
+        match first_from::<K>(held, maturity) {
             Some(at) if maturity_of::<K>(&held[at]) == maturity => Ok(at),
             Some(at) => Err(at),
-            None => Err(self.len),
+            None => Err(held.len()),
         }
     }
 
     // Enters a quotation in its place. It unsettles the book.
+    #[tactic(auto, using(crate::proofs::Shifts::put_is, crate::proofs::Quoted::count_is))]
     pub fn enter(&mut self, quotation: K) -> Result<(), Refusal>
         ensures register { register_of K.read self.new ≡ told (register_of K.read self.old) (Enter (K.means quotation)) }
         ensures answer { ok_map no_figures result ≡ reply (register_of K.read self.old) (Enter (K.means quotation)) }
@@ -105,6 +98,7 @@ impl<'a, K: Instrument> Book<'a, K> {
     }
 
     // Takes the quotation of a maturity out. It unsettles the book.
+    #[tactic(auto, using(crate::proofs::Shifts::cut_is, crate::proofs::Quoted::count_is, crate::proofs::Quoted::withdrawn_quoted))]
     pub fn withdraw(&mut self, maturity: u8) -> Result<(), Refusal>
         ensures register { register_of K.read self.new ≡ told (register_of K.read self.old) (Withdraw maturity) }
         ensures answer { ok_map no_figures result ≡ reply (register_of K.read self.old) (Withdraw maturity) }
@@ -207,4 +201,12 @@ fn maturity_of<K: Instrument>(row: &K::Row) -> u8
     ensures { result ≡ (K.read row.now).maturity }
 {
     K::of_row(*row).maturity()
+}
+
+// The first place at which the maturity is not smaller.
+fn first_from<K: Instrument>(rows: &[K::Row], maturity: u8) -> Option<usize>
+    ensures { result ≡ position (λ row. nat_le maturity (K.read row).maturity) rows.now }
+{
+    rows.iter()
+        .position(|row| maturity_of::<K>(row) >= maturity)
 }
