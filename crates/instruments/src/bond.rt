@@ -78,8 +78,6 @@ impl Instrument for Bond {
 
     ghost making = { bond_body };
 
-    ghost lawful = { Prim.search rules };
-
     ghost rows = { Prim.search rules };
 
     ghost back = { Prim.search rules };

@@ -1,5 +1,6 @@
 // What a kind of instrument is: how it prices and pays, the plain row that stands for it in a place, and how it is made.
 ghost use Rattle.std.specs.Prelude.{◌≡◌, ℕ, ◌≤◌, List, Result};
+ghost use Rattle.std.proofs.Common.{subst};
 ghost use Rattle.instruments.specs.Law.{Meaning, Lawful, ok_map};
 ghost use Rattle.instruments.specs.declared.class.Class.{Class};
 ghost use Rattle.instruments.specs.declared.refusal.Refusal.{Refusal};
@@ -53,10 +54,11 @@ pub trait Instrument: Copy {
     fn make(class: Class, body: &[u8]) -> Result<Self, Refusal>
         ensures { ok_map row result ≡ making class body.now };
 
-    // A kind writes each law with its proof: the check finds the proof, but refuses a kind that leaves a law out.
-    ghost lawful: { (x : Self) → Lawful (means x) };
-
+    // A kind writes these two laws with their proof: the check finds the proof, but refuses a kind that leaves a law out.
     ghost rows: { (r : Self.Row) → Lawful (read r) };
 
     ghost back: { (x : Self) → read (row x) ≡ means x };
+
+    // The law of an instrument is that of its row.
+    ghost lawful: { (x : Self) → Lawful (means x) } = { λ x. subst Lawful (back x) (rows (row x)) };
 }

@@ -114,8 +114,6 @@ impl Instrument for Swap {
 
     ghost making = { swap_body };
 
-    ghost lawful = { Prim.search rules };
-
     ghost rows = { Prim.search rules };
 
     ghost back = { Prim.search rules };

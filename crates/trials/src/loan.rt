@@ -47,8 +47,6 @@ impl Instrument for Loan {
 
     ghost making = { loan_making };
 
-    ghost lawful = { Prim.search rules };
-
     ghost rows = { Prim.search rules };
 
     ghost back = { Prim.search rules };
