@@ -1,6 +1,6 @@
 -- The promise, proved of registers alone: a valid register stands, and every call keeps a register valid.
 use Rattle.std.proofs.Common.{◌≡◌, ℕ, ◌<◌, ◌≤◌, Bool, true, false, cond, not, ltb, List, [], ◌∷◌, ◌++◌, map, length, ℤ, is_some, IfOk, Some, None, Ok, Err, Option, Result, sym, refl, ap, ◌∙◌, subst, inl, inr, arith}
-use Rattle.std.proofs.lemmas.Bool.{cases_lt, cond-true, cond-false, lt-ltb, le-ltb, false≢true, eqb-false}
+use Rattle.std.proofs.lemmas.Bool.{cases_lt, cond-true, cond-false, lt-ltb, le-ltb, not-true, eqb-false}
 use Rattle.instruments.specs.Law.{Meaning, Lawful, ok_map}
 use Rattle.instruments.specs.Limits.{if_kept}
 use Rattle.instruments.specs.Refusals.{reported}
@@ -114,10 +114,6 @@ module _ (b : Option Blend) where
   valid_kept R true refusal o v h = h refl
   valid_kept R false refusal o v h = v
 
-  not_true : (t : Bool) → not t ≡ true → t ≡ false
-  not_true true e = absurd (false≢true e)
-  not_true false e = refl
-
   asking_same : (R : Register) (q : Tables → Result (ℤ × ℤ) Refusal) → register_after R (asking R q) ≡ R
   asking_same R q = go R.is_settled (and_then (settled R.span R.quotations) q)
     where
@@ -142,7 +138,7 @@ module _ (b : Option Blend) where
       valid_kept R (not (after_convergence R.span x.maturity)) _ _ v (λ near.
       valid_kept R (not (is_held x.maturity R.quotations)) _ _ v (λ free.
       valid_kept R (ltb (length R.quotations) R.usable) _ (changed (requoted R (placed x R.quotations))) v (λ room.
-      record { terms = v.terms; laws = placed_lawful x R.quotations law v.laws; ascending = placed_ascending x R.quotations 0 law.one_year v.ascending (not_true _ free) })))
+      record { terms = v.terms; laws = placed_lawful x R.quotations law v.laws; ascending = placed_ascending x R.quotations 0 law.one_year v.ascending (not-true _ free) })))
   valid_told R (Withdraw m) law v = valid_kept R (is_held m R.quotations) _ (changed (requoted R (taken_out m R.quotations))) v (λ held.
       record { terms = v.terms; laws = taken_out_lawful m R.quotations v.laws; ascending = taken_out_ascending m R.quotations 0 v.ascending })
   valid_told R (Post t a) law v = valid_posting R t a (flow_making t a) _ v (valid_kept R (not (is_some (flow_of R t))) _ _ v (λ free. record { terms = v.terms; laws = v.laws; ascending = v.ascending }))

@@ -27,7 +27,7 @@ abbrev pub register_of : {K Row : Type 0} {g : Ghosts K Row} → (Row → Meanin
 register_of read b =
     record { span = span b.terms; usable = min 60 (length (rows_of b)); quotations = quotations_of read b; flows = b.flows.amounts; is_settled = is_some b.curve }
 
--- a book is sound if the curve that it keeps is the one of the held quotations; every book is
+-- a book is sound if the curve that it keeps is the one of the held quotations: its type says so of every book, by what its own kind reads
 abbrev pub Sound : {K Row : Type 0} {g : Ghosts K Row} → (Row → Meaning) → Book K Row g → Type 0
 Sound read b = IfSome b.curve (λ c. Ok c.tables ≡ settled (span b.terms) (quotations_of read b))
 
@@ -76,7 +76,7 @@ rows_after read row means b (Factor t) accepted = rows_of b
 rows_after read row means b (Rate t) accepted = rows_of b
 rows_after read row means b Reserve accepted = rows_of b
 
--- a call made on a sound book: the register is told it, the answer is the one defined, and the book stays sound
+-- a call on a book: the register is told it, the answer is the one defined, and the book is sound
 pub record Kept {K Row : Type 0} {g : Ghosts K Row} (read : Row → Meaning) (before : Book K Row g) (call : Call Meaning) (answer : Result (Option (ℤ × ℤ)) Refusal) (later : Book K Row g) : Type 0 where
   pub register : register_of read later ≡ told (register_of read before) call
   pub replied : answer ≡ reply (register_of read before) call

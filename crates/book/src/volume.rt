@@ -17,7 +17,8 @@ use instruments::refusal::Refusal;
 // at most so many places are used
 const MOST_PLACES: usize = 60;
 
-// The quotations stand as rows in the first `len` places, in rising order of maturity. A settled book keeps their curve.
+// The quotations stand as rows in the first `len` places, in rising order of maturity: the caller lends the places, so that a book needs no
+// memory of its own. A settled book keeps the curve of its quotations.
 #[derive(Drop)]
 pub struct Book<'a, K: Instrument> {
     terms: Terms,
