@@ -38,10 +38,7 @@ fn discounted(factors: (u64, u64), growths: (u64, u64)) -> (u64, u64)
     requires in_range { InRange growths }
     ensures { result ≡ discounted factors growths }
 {
-    (
-        Side::Low.discount(factors.0, growths.1),
-        Side::High.discount(factors.1, growths.0),
-    )
+    Side::both(|side| side.discount(side.of(factors), side.opposite().of(growths)))
 }
 
 impl Terms {
@@ -72,10 +69,7 @@ impl Terms {
             return (ULTIMATE, ULTIMATE);
         }
         let weight = self.weight(year);
-        (
-            Side::Low.blend(weight, market.0),
-            Side::High.blend(weight, market.1),
-        )
+        Side::both(|side| side.blend(weight, side.of(market)))
     }
 }
 
