@@ -14,8 +14,7 @@ use crate::terms::Terms;
 // The growth of the ultimate forward rate, 4.2 per cent.
 const ULTIMATE: u64 = 1_042_000_000;
 
-// The last year of the tables, and of a blended curve.
-pub(crate) const HORIZON: u8 = 120;
+pub(crate) use crate::tables::HORIZON;
 
 impl Side {
     // A growth weighed with the ultimate one.
@@ -32,7 +31,7 @@ impl Side {
 }
 
 // One year's discounting: the low factor by the high growth, the high factor by the low growth.
-fn discounted(factors: (u64, u64), growths: (u64, u64)) -> (u64, u64)
+pub(crate) fn discounted(factors: (u64, u64), growths: (u64, u64)) -> (u64, u64)
     requires low_le_unit { factors.0 ≤ unit }
     requires high_le_unit { factors.1 ≤ unit }
     requires in_range { InRange growths }
