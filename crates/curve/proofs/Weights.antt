@@ -60,23 +60,18 @@ module _ (w : ℕ × ℕ) (is : Weight w) where
       quotient_inmost High ((n - k) * h + k * ultimate) n (q + 1000) is.whole
       (omega (arith, is.part, is.fine, add-mul q 1000 n, mul-add (n - k) g 1000, mul-le-mul_left (n - k) le, lt-div-mul-add {a = a} {b = n} is.whole))
 
--- after the convergence the ultimate rate has every part
-pub weight_late : (b : Option Blend) (x : Blend) → b ≡ Some x → (t : ℕ) → x.convergence < t → weight (blend_span b) t ≡ (1, 1)
-weight_late None x e t h = let z : ◌≡◌ {A = ℕ} 0 1 = cc in absurd (omega arith)
-weight_late (Some y) x e t h =
-    let same : y ≡ x = cc in
-    let late : y.convergence < t = omega (arith, ap (λ z. z.convergence) same) in
-    cond-false (leb t y.liquid) _ _ (lt-leb t y.liquid (omega (arith, y.rises))) ∙ cond-false (leb t y.convergence) _ _ (lt-leb t y.convergence late)
-
-pub blended_ultimate : (σ : Side) (g : ℕ) → blended_growth σ (1, 1) g ≡ ultimate
+-- a growth of which the ultimate rate has every part is that rate's
+pub blended_ultimate : (σ : Side) (n g : ℕ) → 1 ≤ n → blended_growth σ (n, n) g ≡ ultimate
 unfolding blended_growth
-blended_ultimate σ g =
-    let r = quotient_range σ ((1 - 1) * g + 1 * ultimate) 1 ultimate ultimate (omega arith) (omega arith) (omega arith) in
+blended_ultimate σ n g one =
+    let none : n - n ≡ 0 = omega arith in
+    let r = quotient_range σ ((n - n) * g + n * ultimate) n ultimate ultimate one (omega (arith, ap (λ k. k * g) none)) (omega (arith, ap (λ k. k * g) none)) in
     omega (arith, r.0, r.1)
 
--- a growth that it has no part of stays
-pub blended_market : (σ : Side) (g : ℕ) → blended_growth σ (0, 1) g ≡ g
+-- one of which it has no part stays
+pub blended_market : (σ : Side) (n g : ℕ) → 1 ≤ n → blended_growth σ (0, n) g ≡ g
 unfolding blended_growth
-blended_market σ g =
-    let r = quotient_range σ ((1 - 0) * g + 0 * ultimate) 1 g g (omega arith) (omega arith) (omega arith) in
+blended_market σ n g one =
+    let all : n - 0 ≡ n = omega arith in
+    let r = quotient_range σ ((n - 0) * g + 0 * ultimate) n g g one (omega (arith, ap (λ k. k * g) all)) (omega (arith, ap (λ k. k * g) all)) in
     omega (arith, r.0, r.1)

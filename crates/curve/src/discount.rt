@@ -4,6 +4,7 @@ ghost use Rattle.curve.specs.Market.{Ends, Growing, Near, Discounting};
 use crate::gap::Gap;
 use crate::step::{LEAST, UNIT};
 use crate::tables::{HORIZON, Tables, YEARS};
+use crate::terms::Terms;
 use instruments::kind::Instrument;
 use instruments::refusal::Refusal;
 
@@ -18,6 +19,8 @@ pub struct Curve {
 
 impl Curve {
     ghost use Rattle.std.specs.Prelude.{◌≡◌};
+    ghost use Rattle.curve.specs.Blending.{discount};
+    ghost use Rattle.curve.specs.Currencies.{span};
     ghost use Rattle.curve.specs.Market.{const_of, unstripped, with_gap};
     ghost use Rattle.instruments.specs.Law.{ok_map};
 
@@ -50,5 +53,21 @@ impl Curve {
         tables.factors[maturity as usize] = gap.tightened(growths, steps);
         tables.last = maturity;
         Ok(())
+    }
+
+    // The discount curve: on terms with no blend this curve itself, else one that goes on to the horizon.
+    pub fn blended(&self, terms: &Terms) -> Curve
+        ensures { result.tables ≡ discount (span terms.now) self.now.tables }
+    {
+        let Some(blend) = terms.blend else {
+            return *self;
+        };
+        let mut tables = self.tables;
+        for (year, growths) in tables.growths.iter_mut().enumerate() {
+            *growths = terms.growths(year as u8, *growths);
+        }
+        tables.discount_on(blend.liquid.min(tables.last), HORIZON);
+        tables.last = HORIZON;
+        Curve { tables }
     }
 }

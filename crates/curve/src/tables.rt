@@ -1,10 +1,11 @@
 // The figures of a curve by year.
 ghost use Rattle.std.specs.Prelude.{◌≡◌, ℕ, ◌<◌, ◌≤◌};
-ghost use Rattle.curve.specs.Market.{Growing, discounted_on, entry, factor_of};
+ghost use Rattle.curve.specs.Blending.{discounted};
+ghost use Rattle.curve.specs.Market.{Growing, InRange, discounted_on, entry, factor_of};
 ghost use Rattle.curve.specs.Range.{unit};
 ghost use Rattle.curve.specs.declared.side.Side.{Side};
 
-use crate::blend::discounted;
+use crate::side::Side;
 
 // How many years a curve has figures for, year 0 included.
 pub const YEARS: usize = 121;
@@ -19,6 +20,16 @@ pub struct Tables {
     pub(crate) last: u8,
     pub(crate) growths: [(u64, u64); YEARS],
     pub(crate) factors: [(u64, u64); YEARS],
+}
+
+// One year's discounting: the low factor by the high growth, the high factor by the low growth.
+fn discounted(factors: (u64, u64), growths: (u64, u64)) -> (u64, u64)
+    requires low_le_unit { factors.0 ≤ unit }
+    requires high_le_unit { factors.1 ≤ unit }
+    requires in_range { InRange growths }
+    ensures { result ≡ discounted factors growths }
+{
+    Side::both(|side| side.discount(side.of(factors), side.opposite().of(growths)))
 }
 
 impl Tables {

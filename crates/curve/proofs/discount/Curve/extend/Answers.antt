@@ -126,7 +126,7 @@ invariant_of-self-2 g c =
     let at = goal.at.invariant_of-self-2 g c in
     let f = filled g at.After-fill in
     let all = subst Ordered (sym (extends g at.After-tightened f (goes_on g at.After-discount_on f)))
-        (extended_ordered c.args.self.now.tables (ordered c.args.self.now) (g.K.Instrument.means c.args.instrument) (g.met.K.Instrument.lawful c.args.instrument) c.in_ok-growths.growths f.accepts) in
+    (extended_ordered c.args.self.now.tables (ordered c.args.self.now) (g.K.Instrument.means c.args.instrument) (g.met.K.Instrument.lawful c.args.instrument) c.in_ok-growths.growths f.accepts) in
     record { ends = all.ends; growing = all.growing; near = all.near; discounting = all.discounting }
 
 pub returns : goal.returns
