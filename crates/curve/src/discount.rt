@@ -62,11 +62,12 @@ impl Curve {
         let Some(blend) = terms.blend else {
             return *self;
         };
+        let known = blend.liquid.min(self.tables.last);
         let mut tables = self.tables;
         for (year, growths) in tables.growths.iter_mut().enumerate() {
             *growths = terms.growths(year as u8, *growths);
         }
-        tables.discount_on(blend.liquid.min(tables.last), HORIZON);
+        tables.discount_on(known, HORIZON);
         tables.last = HORIZON;
         Curve { tables }
     }

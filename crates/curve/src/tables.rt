@@ -1,5 +1,5 @@
 // The figures of a curve by year.
-ghost use Rattle.std.specs.Prelude.{◌≡◌, ℕ, ◌<◌, ◌≤◌};
+ghost use Rattle.std.specs.Prelude.{◌≡◌, ℕ, ◌<◌, ◌≤◌, length};
 ghost use Rattle.curve.specs.Blending.{discounted};
 ghost use Rattle.curve.specs.Market.{Growing, InRange, discounted_on, entry, factor_of};
 ghost use Rattle.curve.specs.Range.{unit};
@@ -40,6 +40,7 @@ impl Tables {
         requires factors_le_unit { (σ : Side) (t : ℕ) → t ≤ from → factor_of self.old σ t ≤ unit }
         ensures last { self.new.last ≡ self.old.last }
         ensures growths { self.new.growths ≡ self.old.growths }
+        ensures long { length self.new.factors ≡ 121 }
         ensures reached { (t : ℕ) → t ≤ to → entry self.new.factors t ≡ discounted_on self.old from t }
         ensures later { (t : ℕ) → to < t → entry self.new.factors t ≡ entry self.old.factors t }
     {

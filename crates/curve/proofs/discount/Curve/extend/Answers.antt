@@ -119,7 +119,7 @@ extends g c f d =
     let D = c.discount_on.new.self in
     let steps_are : entry D.factors m ≡ pair (λ σ. stepped T growths σ x.maturity) = d.reached m (omega arith) ∙ ap (λ t. pair (λ σ. stepped T growths σ t)) d.ends in
     let tight = c.tightened.ensures ∙ tightened_alike T x _ _ (opened T o x law r.known r.start r.last (g.K.Instrument.means r.instrument) same n.year n.begun n.summed) same o law growths f.accepts _ steps_are in
-    tables_alike T x law growths D m c.tightened.result d.ends d.spread (search rules) d.reached c.discount_on.ensures.later tight
+    tables_alike T x law growths D m c.tightened.result d.ends d.spread c.discount_on.ensures.long d.reached c.discount_on.ensures.later tight
 
 pub invariant_of-self-2 : goal.invariant_of-self-2
 invariant_of-self-2 g c =
