@@ -2,7 +2,7 @@
 use Rattle.std.proofs.Common.{◌≡◌, ℕ, ◌+◌, ◌<◌, ◌≤◌, min, List, length, Some, None, Option, sym, refl, ap, ◌∙◌, subst, arith}
 use Rattle.curve.specs.Blending.{discount_growth, discount_factor, discount, horizon_tables}
 use Rattle.curve.specs.Currencies.{blend_span}
-use Rattle.curve.specs.Market.{by_year, entry, growth_of, factor_of, discounted_on, InRange, Ordered}
+use Rattle.curve.specs.Market.{entry, growth_of, factor_of, discounted_on, InRange, Ordered}
 use Rattle.curve.specs.Range.{unit, least, most}
 use Rattle.curve.specs.Steps.{side_of, opposite, pair}
 use Rattle.curve.specs.declared.side.Side.{Side}
@@ -73,7 +73,7 @@ module _ (b : Option Blend) (T : Tables) (growths : List (ℕ × ℕ)) (are : (t
   blended_factor : (s t : ℕ) → t < 121 → discounted_on (record { last = T.last; growths = growths; factors = T.factors }) s t ≡ pair (λ σ. discount_factor (blend_span b) T s σ t)
   blended_factor s t h =
       let side = λ (σ : Side). continued_same σ (factor_of T σ) (factor_of T σ) s (λ u. side_of (opposite σ) (entry growths u)) (discount_growth (blend_span b) T (opposite σ)) t (λ u a. refl)
-          (λ u late a. ap (side_of (opposite σ)) (are u (omega arith)) ∙ side_of_pair (opposite σ) (λ τ. discount_growth (blend_span b) T τ u)) in
+      (λ u late a. ap (side_of (opposite σ)) (are u (omega arith)) ∙ side_of_pair (opposite σ) (λ τ. discount_growth (blend_span b) T τ u)) in
       λ i. (side Low i, side High i)
 
   -- such tables are those of the discount curve

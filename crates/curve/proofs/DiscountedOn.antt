@@ -3,7 +3,7 @@ use Rattle.std.proofs.Common.{◌≡◌, ℕ, ◌-◌, ◌<◌, ◌≤◌, sym, 
 use Rattle.curve.specs.Blending.{discounted}
 use Rattle.curve.specs.Market.{Growing, discounted_on, entry, factor_of, growth_of}
 use Rattle.curve.specs.Range.{unit, least}
-use Rattle.curve.specs.Steps.{opposite, side_of}
+use Rattle.curve.specs.Steps.{opposite}
 use Rattle.curve.specs.declared.side.Side.{Side}
 use Rattle.curve.specs.declared.side.Side.TheVariants.{Low, High}
 use Rattle.curve.specs.declared.tables.Tables.{Tables}

@@ -1,15 +1,14 @@
 -- What settling tells of every admitted curve, from the definitions alone.
-use Rattle.std.proofs.Common.{◌≡◌, ℕ, ◌≤◌, min, Bool, true, false, cond, ltb, List, [], ◌∷◌, Some, None, Ok, Err, Option, Result, sym, refl, subst, arith}
+use Rattle.std.proofs.Common.{◌≡◌, ℕ, ◌≤◌, Bool, true, false, cond, ltb, List, [], ◌∷◌, Some, None, Ok, Err, Option, Result, sym, refl, subst, arith}
 use Rattle.std.proofs.lemmas.Bool.{ltb-false}
 use Rattle.instruments.specs.Law.{Meaning, ok_map}
 use Rattle.instruments.specs.declared.refusal.Refusal.{Refusal}
 use Rattle.instruments.specs.declared.refusal.Refusal.TheVariants.{TooShort}
-use Rattle.curve.specs.Blending.{discount, discount_growth, discount_factor}
+use Rattle.curve.specs.Blending.{discount}
 use Rattle.curve.specs.Currencies.{blend_span}
 use Rattle.curve.specs.Exact.{ExactCurve, exact_growth, exact_discount, Admitted, Tells}
 use Rattle.curve.specs.Market.{worth_at, found_growths, extended, with_gap, and_then, strip_from, stripped, unstripped, Ordered}
 use Rattle.curve.specs.Settling.{last_from, needed, settled}
-use Rattle.curve.specs.Steps.{pair}
 use Rattle.curve.specs.declared.tables.Tables.{Tables}
 use Rattle.curve.specs.declared.terms.Blend.{Blend}
 use Rattle.curve.proofs.Blended.{discount_ordered}

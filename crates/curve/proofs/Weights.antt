@@ -1,7 +1,7 @@
 -- What holds of a growth weighed with the ultimate one.
-use Rattle.std.proofs.Common.{◌≡◌, ℕ, ◌+◌, ◌-◌, ◌*◌, ◌<◌, ◌≤◌, leb, Some, None, Option, ap, ◌∙◌, add-mul, mul-le-mul_left, mul-add, arith}
+use Rattle.std.proofs.Common.{◌≡◌, ℕ, ◌+◌, ◌-◌, ◌*◌, ◌≤◌, leb, Some, None, Option, ap, add-mul, mul-le-mul_left, mul-add, arith}
 use native.Mathlib.Nat.{lt-div-mul-add}
-use Rattle.std.proofs.lemmas.Bool.{cond_both, cond-false, lt-leb, leb-true, leb-false}
+use Rattle.std.proofs.lemmas.Bool.{cond_both, leb-true, leb-false}
 use Rattle.curve.specs.Blending.{weight, ultimate, blended_growth}
 use Rattle.curve.specs.Currencies.{blend_span}
 use Rattle.curve.specs.Range.{least, most}

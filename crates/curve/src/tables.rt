@@ -7,11 +7,11 @@ ghost use Rattle.curve.specs.declared.side.Side.{Side};
 
 use crate::side::Side;
 
-// How many years a curve has figures for, year 0 included.
-pub const YEARS: usize = 121;
-
-// The last of those years.
+// The last year that a curve has figures for.
 pub(crate) const HORIZON: u8 = 120;
+
+// How many years it has figures for, year 0 included.
+pub const YEARS: usize = HORIZON as usize + 1;
 
 // A curve by year: the low and the high growth (1 plus the forward) and discount factor of each year 0 to 120, in units of 10^-9,
 // and the last year that it answers for.

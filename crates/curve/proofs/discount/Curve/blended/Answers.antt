@@ -1,8 +1,7 @@
-use Rattle.std.proofs.Common.{◌≡◌, ℕ, ◌<◌, ◌≤◌, sym, ◌∙◌, subst, arith}
-use Rattle.curve.specs.Blending.{discount, discount_growth}
+use Rattle.std.proofs.Common.{◌≡◌, sym, ◌∙◌, subst, arith}
+use Rattle.curve.specs.Blending.{discount}
 use Rattle.curve.specs.Currencies.{span}
-use Rattle.curve.specs.Market.{Ordered, entry}
-use Rattle.curve.specs.Steps.{pair}
+use Rattle.curve.specs.Market.{Ordered}
 use Rattle.curve.specs.declared.tables.Tables.{Tables}
 use Rattle.curve.proofs.Blended.{discount_ordered, blended_growing, discount_is}
 use Rattle.curve.proofs.OrderedCurve.{ordered}
@@ -22,7 +21,7 @@ blends : (c : After-discount_on) → ◌≡◌ {A = Tables} (record { last = 120
 blends c =
     (λ i. record { last = 120; growths = c.discount_on.ensures.growths i; factors = c.discount_on.new.self.factors })
     ∙ discount_is c.args.terms.now.blend c.args.self.now.tables c.loop-year.growths-items (λ t h. c.loop-year.invariant.1 t (omega arith)) c.in-Some.blend c.in-Some.is c.min-known.result c.min-known.ensures
-        c.discount_on.new.self.factors c.loop-year.invariant.0 c.discount_on.ensures.long c.discount_on.ensures.reached
+    c.discount_on.new.self.factors c.loop-year.invariant.0 c.discount_on.ensures.long c.discount_on.ensures.reached
 
 pub invariant_of-result : goal.invariant_of-result
 invariant_of-result c =

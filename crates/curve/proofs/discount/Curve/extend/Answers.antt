@@ -2,12 +2,10 @@ use Rattle.std.proofs.Common.{◌≡◌, ℕ, ◌+◌, ◌-◌, ◌<◌, ◌≤�
 use borrow.Rule.Slice.PartMut.{put_mid, mid_of}
 use Rattle.std.proofs.lemmas.Result.{err_from_is_err_and}
 use Rattle.std.proofs.lemmas.List.{places}
-use Rattle.instruments.specs.Law.{Meaning, Lawful}
-use Rattle.curve.specs.Market.{InRange, Ordered, by_year, discounted_on, entry, extended, extended_growths, stepped, tightened, worth_at}
+use Rattle.instruments.specs.Law.{Meaning}
+use Rattle.curve.specs.Market.{InRange, Ordered, by_year, entry, extended, extended_growths, stepped, worth_at}
 use Rattle.curve.specs.Steps.{pair}
-use Rattle.curve.specs.Worths.{gap_worth}
 use Rattle.curve.specs.declared.tables.Tables.{Tables}
-use Rattle.curve.proofs.Bounds.{factor_small}
 use Rattle.curve.proofs.Extension.{opened, refused_alike, accepted_alike, extends_alike, leaves_alike, tightened_alike, spread_alike, spread_late, steps_alike, tables_alike}
 use Rattle.curve.proofs.Gaps.{growths_range, stepped_order, stepped_small, extended_ordered}
 use Rattle.curve.proofs.OrderedCurve.{ordered}

@@ -1,4 +1,4 @@
-use Rattle.std.proofs.Common.{◌≡◌, ℕ, ◌<◌, ◌≤◌, length}
+use Rattle.std.proofs.Common.{◌≡◌, ℕ, ◌<◌, length}
 use Rattle.curve.specs.Market.{discounted_on, entry}
 use Rattle.curve.proofs.tables.Tables.discount_on.Given as goal
 
