@@ -35,7 +35,8 @@ fn discounted(factors: (u64, u64), growths: (u64, u64)) -> (u64, u64)
 impl Tables {
     // Goes on with the factors after year `from` up to year `to`: each year's are those of the year before, discounted by its own growths.
     pub(crate) fn discount_on(&mut self, from: u8, to: u8)
-        requires in_table { to ≤ 120 }
+        requires begins_in_table { from ≤ 120 }
+        requires ends_in_table { to ≤ 120 }
         requires growing { Growing self.old }
         requires factors_le_unit { (σ : Side) (t : ℕ) → t ≤ from → factor_of self.old σ t ≤ unit }
         ensures last { self.new.last ≡ self.old.last }
@@ -44,8 +45,10 @@ impl Tables {
         ensures reached { (t : ℕ) → t ≤ to → entry self.new.factors t ≡ discounted_on self.old from t }
         ensures later { (t : ℕ) → to < t → entry self.new.factors t ≡ entry self.old.factors t }
     {
-        for year in from as usize + 1..=to as usize {
-            self.factors[year] = discounted(self.factors[year - 1], self.growths[year]);
+        let mut factors = self.factors[from as usize];
+        for year in from as usize + 1..to as usize + 1 {
+            factors = discounted(factors, self.growths[year]);
+            self.factors[year] = factors;
         }
     }
 }

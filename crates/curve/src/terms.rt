@@ -103,13 +103,13 @@ impl Terms {
         };
         if year <= blend.liquid {
             Share { part: 0, whole: 1 }
-        } else if year <= blend.convergence {
+        } else if year > blend.convergence {
+            Share { part: 1, whole: 1 }
+        } else {
             Share {
                 part: year - blend.liquid,
                 whole: blend.convergence - blend.liquid + 1,
             }
-        } else {
-            Share { part: 1, whole: 1 }
         }
     }
 
