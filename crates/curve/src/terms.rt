@@ -126,12 +126,12 @@ impl Terms {
         requires { InRange market }
         ensures { result ≡ blended_growths (weight (span self.now) year) market }
     {
+        if self.converged(year) {
+            return (ULTIMATE, ULTIMATE);
+        }
         let share = self.share(year);
         if share.part == 0 {
             return market;
-        }
-        if share.part == share.whole {
-            return (ULTIMATE, ULTIMATE);
         }
         Side::both(|side| share.weighed(side, side.of(market)))
     }
