@@ -5,12 +5,14 @@ pub mod Blends
 pub mod Bounds
 pub mod Compounding
 pub mod Continuation
+pub mod DiscountedOn
 pub mod Edges
 pub mod Enclosure
 pub mod Extension
 pub mod Gaps
 pub mod Marked
 pub mod OneYear
+pub mod OrderedCurve
 pub mod Outward
 pub mod RateBounds
 pub mod ReserveBounds

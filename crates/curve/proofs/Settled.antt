@@ -1,34 +1,22 @@
 -- What settling tells of every admitted curve, from the definitions alone.
-use Rattle.std.proofs.Common.{◌≡◌, ℕ, ◌≤◌, min, Bool, true, false, cond, ltb, List, [], ◌∷◌, Some, None, Ok, Err, Option, Result, sym, refl, subst, arith}
+use Rattle.std.proofs.Common.{◌≡◌, ℕ, ◌≤◌, Bool, true, false, cond, ltb, List, [], ◌∷◌, Some, None, Ok, Err, Option, Result, sym, refl, subst, arith}
 use Rattle.std.proofs.lemmas.Bool.{ltb-false}
 use Rattle.instruments.specs.Law.{Meaning, ok_map}
 use Rattle.instruments.specs.declared.refusal.Refusal.{Refusal}
 use Rattle.instruments.specs.declared.refusal.Refusal.TheVariants.{TooShort}
-use Rattle.curve.specs.Blending.{discount, discount_growth, discount_factor}
+use Rattle.curve.specs.Blending.{discount}
 use Rattle.curve.specs.Currencies.{blend_span}
 use Rattle.curve.specs.Exact.{ExactCurve, exact_growth, exact_discount, Admitted, Tells}
 use Rattle.curve.specs.Market.{worth_at, found_growths, extended, with_gap, and_then, strip_from, stripped, unstripped, Ordered}
 use Rattle.curve.specs.Settling.{last_from, needed, settled}
-use Rattle.curve.specs.Steps.{pair}
 use Rattle.curve.specs.declared.tables.Tables.{Tables}
 use Rattle.curve.specs.declared.terms.Blend.{Blend}
-use Rattle.curve.proofs.Blended.{growths_range, growths_near, factors_ordered}
+use Rattle.curve.proofs.Blended.{discount_ordered}
 use Rattle.curve.proofs.Bounds.{start_ordered}
-use Rattle.curve.proofs.Gaps.{entry_by_year, extended_ordered}
+use Rattle.curve.proofs.Gaps.{extended_ordered}
 use Rattle.curve.proofs.Settlement.{settled_encloses}
 use Rattle.curve.proofs.Stripped.{AllLawful, stripped_tells}
 use Rattle.curve.proofs.Verdict.{accepted}
-
--- a blended curve is ordered
-pub discount_ordered : (b : Option Blend) (T : Tables) → Ordered T → Ordered (discount (blend_span b) T)
-unfolding discount
-discount_ordered None T o = o
-discount_ordered (Some x) T o = record {
-  ends = omega arith;
-  growing = λ t h. rw (entry_by_year (λ u. pair (λ σ. discount_growth (blend_span (Some x)) T σ u)) t h) (growths_range (Some x) T o t h);
-  near = λ t h. rw (entry_by_year (λ u. pair (λ σ. discount_growth (blend_span (Some x)) T σ u)) t h) (growths_near (Some x) T o t h);
-  discounting = λ t h. rw (entry_by_year (λ u. pair (λ σ. discount_factor (blend_span (Some x)) T (min x.liquid T.last) σ u)) t h) (factors_ordered (Some x) T o (min x.liquid T.last) (omega (arith, o.ends)) t h);
-}
 
 -- a stripped curve is ordered
 strip_ordered : (xs : List Meaning) (T N : Tables) → Ordered T → AllLawful xs → strip_from T xs ≡ Ok N → Ordered N

@@ -1,9 +1,9 @@
 -- What holds of a growth weighed with the ultimate one.
-use Rattle.std.proofs.Common.{◌≡◌, ℕ, ◌+◌, ◌-◌, ◌*◌, ◌<◌, ◌≤◌, leb, Some, None, Option, ap, ◌∙◌, add-mul, mul-le-mul_left, mul-add, arith}
+use Rattle.std.proofs.Common.{◌≡◌, ℕ, ◌+◌, ◌-◌, ◌*◌, ◌<◌, ◌≤◌, true, leb, Some, None, Option, sym, ap, ◌∙◌, add-mul, mul-le-mul_left, mul-add, arith}
 use native.Mathlib.Nat.{lt-div-mul-add}
-use Rattle.std.proofs.lemmas.Bool.{cond_both, cond-false, lt-leb, leb-true, leb-false}
+use Rattle.std.proofs.lemmas.Bool.{cond_both, cond-false, lt-leb, leb-true, leb-false, ltb-true, true≢false}
 use Rattle.curve.specs.Blending.{weight, ultimate, blended_growth}
-use Rattle.curve.specs.Currencies.{blend_span}
+use Rattle.curve.specs.Currencies.{blend_span, after_convergence}
 use Rattle.curve.specs.Range.{least, most}
 use Rattle.curve.specs.Steps.{quotient}
 use Rattle.curve.specs.declared.side.Side.{Side}
@@ -61,12 +61,11 @@ module _ (w : ℕ × ℕ) (is : Weight w) where
       (omega (arith, is.part, is.fine, add-mul q 1000 n, mul-add (n - k) g 1000, mul-le-mul_left (n - k) le, lt-div-mul-add {a = a} {b = n} is.whole))
 
 -- after the convergence the ultimate rate has every part
-pub weight_late : (b : Option Blend) (x : Blend) → b ≡ Some x → (t : ℕ) → x.convergence < t → weight (blend_span b) t ≡ (1, 1)
-weight_late None x e t h = let z : ◌≡◌ {A = ℕ} 0 1 = cc in absurd (omega arith)
-weight_late (Some y) x e t h =
-    let same : y ≡ x = cc in
-    let late : y.convergence < t = omega (arith, ap (λ z. z.convergence) same) in
-    cond-false (leb t y.liquid) _ _ (lt-leb t y.liquid (omega (arith, y.rises))) ∙ cond-false (leb t y.convergence) _ _ (lt-leb t y.convergence late)
+pub weight_late : (b : Option Blend) (t : ℕ) → after_convergence (blend_span b) t ≡ true → weight (blend_span b) t ≡ (1, 1)
+weight_late None t e = absurd (true≢false (sym e))
+weight_late (Some b) t e =
+    let late : b.convergence < t = ltb-true _ _ e in
+    cond-false (leb t b.liquid) _ _ (lt-leb t b.liquid (omega (arith, b.rises))) ∙ cond-false (leb t b.convergence) _ _ (lt-leb t b.convergence late)
 
 pub blended_ultimate : (σ : Side) (g : ℕ) → blended_growth σ (1, 1) g ≡ ultimate
 unfolding blended_growth
@@ -75,8 +74,9 @@ blended_ultimate σ g =
     omega (arith, r.0, r.1)
 
 -- a growth that it has no part of stays
-pub blended_market : (σ : Side) (g : ℕ) → blended_growth σ (0, 1) g ≡ g
+pub blended_market : (σ : Side) (n g : ℕ) → 1 ≤ n → blended_growth σ (0, n) g ≡ g
 unfolding blended_growth
-blended_market σ g =
-    let r = quotient_range σ ((1 - 0) * g + 0 * ultimate) 1 g g (omega arith) (omega arith) (omega arith) in
+blended_market σ n g one =
+    let all : n - 0 ≡ n = omega arith in
+    let r = quotient_range σ ((n - 0) * g + 0 * ultimate) n g g one (omega (arith, ap (λ k. k * g) all)) (omega (arith, ap (λ k. k * g) all)) in
     omega (arith, r.0, r.1)

@@ -62,6 +62,10 @@ steps_from factors s growths σ t = continued σ (λ u. side_of σ (entry factor
 unfoldable pub stepped : Tables → ℕ × ℕ → Side → ℕ → ℕ
 stepped T growths σ t = steps_from T.factors T.last growths σ t
 
+-- the pair of factors of year t where those up to year s are known, and each later year discounts the one before by its own growths
+abbrev pub discounted_on : Tables → ℕ → ℕ → ℕ × ℕ
+discounted_on T s t = pair (λ σ. continued σ (factor_of T σ) s (growth_of T (opposite σ)) t)
+
 -- the pair of factors of a year of the gap
 abbrev pub step_pair : List (ℕ × ℕ) → ℕ → ℕ × ℕ → ℕ → ℕ × ℕ
 step_pair factors s growths t = (steps_from factors s growths Low t, steps_from factors s growths High t)

@@ -1,7 +1,12 @@
 // A curve that is asked for figures: the market's, as stripped, or the discount curve, as blended.
 ghost use Rattle.curve.specs.Market.{Ends, Growing, Near, Discounting};
 
-use crate::tables::Tables;
+use crate::gap::Gap;
+use crate::step::{LEAST, UNIT};
+use crate::tables::{HORIZON, Tables, YEARS};
+use crate::terms::Terms;
+use instruments::kind::Instrument;
+use instruments::refusal::Refusal;
 
 #[derive(Clone, Copy)]
 pub struct Curve {
@@ -10,4 +15,60 @@ pub struct Curve {
     ghost growing: { Growing tables },
     ghost near: { Near tables },
     ghost discounting: { Discounting tables },
+}
+
+impl Curve {
+    ghost use Rattle.std.specs.Prelude.{◌≡◌};
+    ghost use Rattle.curve.specs.Blending.{discount};
+    ghost use Rattle.curve.specs.Currencies.{span};
+    ghost use Rattle.curve.specs.Market.{const_of, unstripped, with_gap};
+    ghost use Rattle.instruments.specs.Law.{ok_map};
+
+    // Nothing known after year 0.
+    pub(crate) fn unstripped() -> Curve
+        ensures { result.tables ≡ unstripped }
+    {
+        Curve {
+            tables: Tables {
+                last: 0,
+                growths: [(LEAST, LEAST); YEARS],
+                factors: [(UNIT, UNIT); YEARS],
+            },
+        }
+    }
+
+    // Goes on with the gap up to the instrument's maturity.
+    pub(crate) fn extend<K: Instrument>(&mut self, instrument: K) -> Result<(), Refusal>
+        ensures { ok_map (const_of self.new.tables) result ≡ with_gap self.old.tables (K.Instrument.means instrument) }
+    {
+        let tables = &mut self.tables;
+        let last = tables.last;
+        let guess = tables.growths[HORIZON as usize].0;
+        let gap = Gap::new(tables, instrument);
+        let growths = gap.growths(guess)?;
+        let maturity = gap.maturity();
+        tables.growths[last as usize + 1..].fill(growths);
+        tables.discount_on(last, maturity);
+        let steps = tables.factors[maturity as usize];
+        tables.factors[maturity as usize] = gap.tightened(growths, steps);
+        tables.last = maturity;
+        Ok(())
+    }
+
+    // The discount curve: on terms with no blend this curve itself, else one that goes on to the horizon.
+    pub fn blended(&self, terms: &Terms) -> Curve
+        ensures { result.tables ≡ discount (span terms.now) self.now.tables }
+    {
+        let Some(blend) = terms.blend else {
+            return *self;
+        };
+        let known = blend.liquid.min(self.tables.last);
+        let mut tables = self.tables;
+        for (year, growths) in tables.growths.iter_mut().enumerate() {
+            *growths = terms.growths(year as u8, *growths);
+        }
+        tables.discount_on(known, HORIZON);
+        tables.last = HORIZON;
+        Curve { tables }
+    }
 }

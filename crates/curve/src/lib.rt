@@ -2,7 +2,6 @@
 #![tactic(auto)]
 
 pub mod blend;
-pub mod currency;
 pub mod discount;
 pub mod figures;
 mod gap;

@@ -1,10 +1,10 @@
 // Settling: from quotations to the discount curve.
-ghost use Rattle.std.specs.Prelude.{◌≡◌, ◌≤◌, map};
+ghost use Rattle.std.specs.Prelude.{◌≡◌, map};
 ghost use Rattle.instruments.specs.Law.{ok_map};
 ghost use Rattle.curve.specs.Currencies.{span};
 ghost use Rattle.curve.specs.Curves.{tables_of};
 ghost use Rattle.curve.specs.Exact.{ExactCurve, exact_growth, exact_discount, Admitted, Tells};
-ghost use Rattle.curve.specs.Settling.{last_from, needed, settled};
+ghost use Rattle.curve.specs.Settling.{last_from, settled};
 
 use crate::discount::Curve;
 use crate::strip::strip;
@@ -16,23 +16,7 @@ use instruments::refusal::Refusal;
 fn last_maturity<K: Instrument>(rows: &[K::Row]) -> u8
     ensures { result ≡ last_from 0 (map K.Instrument.read rows.now) }
 {
-    match rows.last() {
-        Some(row) => K::of_row(*row).maturity(),
-        None => 0,
-    }
-}
-
-impl Terms {
-    // The maturity that the last quotation must have at least.
-    fn needed(&self) -> u8
-        ensures value { result ≡ needed (span self.now) }
-        ensures positive { 1 ≤ result }
-    {
-        match self.blend {
-            Some(blend) => blend.liquid,
-            None => 1,
-        }
-    }
+    rows.last().map_or(0, |row| K::of_row(*row).maturity())
 }
 
 // The discount curve of rows in rising order of maturity, or the first refusal.

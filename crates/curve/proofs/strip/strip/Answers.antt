@@ -1,4 +1,4 @@
-use Rattle.std.proofs.Common.{◌≡◌, ℕ, ◌+◌, ◌<◌, List, map, length, get_or, drop, Ok, Err, Result, sym, refl, ap, ◌∙◌, subst}
+use Rattle.std.proofs.Common.{◌≡◌, ℕ, ◌+◌, ◌<◌, List, map, length, get_or, drop, Ok, Err, Result, sym, ap, ◌∙◌, subst}
 use Rattle.std.proofs.lemmas.List.{at_drop_more, at_drop_all}
 use Rattle.std.proofs.lemmas.Result.{err_from_is_err_and}
 use Rattle.instruments.specs.Law.{Meaning, Lawful}
@@ -31,20 +31,18 @@ pub returns-in_err-extend : goal.returns-in_err-extend
 returns-in_err-extend g c =
     let p = err_from_is_err_and c.from_residual.result c.from_residual.ensures.1 in
     let all = promised g.K.Instrument.read g.met.K.Instrument.rows c.args.rows.now (Err c.in_err-extend.field-0.0)
-    (turn g.K.Instrument.read c.loop-row.tables c.args.rows.now c.loop-row.row-index c.row-item.result (g.K.Instrument.means c.of_row.result) _ c.loop-row-test.true c.row-item.is c.of_row.ensures c.in_err-extend.ensures.gap
-    ∙ c.loop-row.invariant.0) in
+    (turn g.K.Instrument.read c.loop-row.curve.tables c.args.rows.now c.loop-row.row-index c.row-item.result (g.K.Instrument.means c.of_row.result) _ c.loop-row-test.true c.row-item.is c.of_row.ensures c.in_err-extend.ensures
+    ∙ c.loop-row.invariant) in
     rw (p.1, p.2) (record { curve = all.curve; encloses = all.encloses })
 
 pub loop-row-preserved : goal.loop-row-preserved
-loop-row-preserved g c = (
-  turn g.K.Instrument.read c.loop-row.tables c.args.rows.now c.loop-row.row-index c.row-item.result (g.K.Instrument.means c.of_row.result) _ c.loop-row-test.true c.row-item.is c.of_row.ensures c.in_ok-extend.ensures.gap
-      ∙ c.loop-row.invariant.0,
-  c.in_ok-extend.ensures.ordered refl,
-)
+loop-row-preserved g c =
+    turn g.K.Instrument.read c.loop-row.curve.tables c.args.rows.now c.loop-row.row-index c.row-item.result (g.K.Instrument.means c.of_row.result) _ c.loop-row-test.true c.row-item.is c.of_row.ensures c.in_ok-extend.ensures
+    ∙ c.loop-row.invariant
 
 pub returns : goal.returns
 unfolding strip_from
 returns g c =
-    let all = promised g.K.Instrument.read g.met.K.Instrument.rows c.args.rows.now (Ok c.loop-row.tables)
-    (sym (at_drop_all (λ rest. strip_from c.loop-row.tables (map g.K.Instrument.read rest)) c.args.rows.now c.loop-row.row-index c.loop-row-test.false) ∙ c.loop-row.invariant.0) in
+    let all = promised g.K.Instrument.read g.met.K.Instrument.rows c.args.rows.now (Ok c.loop-row.curve.tables)
+    (sym (at_drop_all (λ rest. strip_from c.loop-row.curve.tables (map g.K.Instrument.read rest)) c.args.rows.now c.loop-row.row-index c.loop-row-test.false) ∙ c.loop-row.invariant) in
     record { curve = all.curve; encloses = all.encloses }

@@ -1,13 +1,16 @@
-use Rattle.std.proofs.Common.{sym, ap, ◌∙◌}
-use Rattle.curve.specs.Blending.{blended_growth}
-use Rattle.curve.specs.Steps.{side_of}
-use Rattle.curve.specs.declared.side.Side.{Side}
+use Rattle.std.proofs.Common.{◌≡◌, ℕ, sym, ap, ◌∙◌}
+use Rattle.curve.specs.Blending.{blended_growths}
 use Rattle.curve.specs.declared.side.Side.TheVariants.{Low, High}
-use Rattle.curve.proofs.Weights.{weight_late, blended_ultimate}
+use Rattle.curve.proofs.Weights.{weight_late, blended_ultimate, blended_market}
 use Rattle.curve.proofs.terms.Terms.growths.Goals as goal
 
-pub returns : goal.returns
-returns c =
-    let all = weight_late c.args.self.now.blend c.in-Some.blend c.in-Some.is c.args.year c.if-year-blend.true in
-    let same = λ (σ : Side). sym (ap (λ w. blended_growth σ w (side_of σ c.args.market)) all ∙ blended_ultimate σ (side_of σ c.args.market)) in
-    λ i. (same Low i, same High i)
+pub returns-then-converged : goal.returns-then-converged
+returns-then-converged c =
+    let all = ap (λ w. blended_growths w c.args.market) (sym (weight_late c.args.self.now.blend c.args.year (sym c.if-converged.ensures))) in
+    (λ i. (sym (blended_ultimate Low c.args.market.0) i, sym (blended_ultimate High c.args.market.1) i)) ∙ all
+
+pub returns-then-share-eq0 : goal.returns-then-share-eq0
+returns-then-share-eq0 c =
+    let share = c.share-share.result in
+    let none = ap (λ k. blended_growths (k, share.whole) c.args.market) (sym c.if-share-eq0.true) ∙ ap (λ w. blended_growths w c.args.market) c.share-share.ensures in
+    (λ i. (sym (blended_market Low share.whole c.args.market.0 share.some) i, sym (blended_market High share.whole c.args.market.1 share.some) i)) ∙ none
