@@ -30,32 +30,33 @@ fn first_held(flows: &[Option<i32>]) -> Option<usize>
 }
 
 // What an amount of kronor is worth at the factors of its year, low and high, in hundredths.
-fn portion(factors: (u64, u64), amount: u32) -> (u64, u64)
-    requires factors_le_unit { (σ : Side) → side_of σ factors ≤ unit }
+fn portion(factors: &(u64, u64), amount: u32) -> (u64, u64)
+    requires factors_le_unit { (σ : Side) → side_of σ factors.now ≤ unit }
     requires amount_bound { amount ≤ 2 ^ 31 }
-    ensures value { result ≡ pair (portion factors amount) }
+    ensures value { result ≡ pair (portion factors.now amount) }
     ensures small { (σ : Side) → side_of σ result ≤ largest }
 {
     let kronor = u64::from(amount);
-    Side::both(|side| side.divide(kronor * side.of(factors), HUNDREDTH))
+    Side::both(|side| side.divide(kronor * side.of(*factors), HUNDREDTH))
 }
 
 impl Balance {
     // The balance with one flow more, at the factors of its year.
-    fn with_flow(self, factors: (u64, u64), amount: i32) -> Balance
-        requires factors_le_unit { (σ : Side) → side_of σ factors ≤ unit }
+    fn with_flow(self, factors: &(u64, u64), amount: i32) -> Balance
+        requires factors_le_unit { (σ : Side) → side_of σ factors.now ≤ unit }
         requires room { Bounded 120 self }
-        ensures left { (σ : Side) → left_of result σ ≡ left_of self σ +ℤ share factors amount σ }
+        ensures left { (σ : Side) → left_of result σ ≡ left_of self σ +ℤ share factors.now amount σ }
         ensures bounded { (n : ℕ) → Bounded n self → Bounded (n + 1) result }
     {
         let Balance { gains, losses } = self;
-        let worth = portion(factors, amount.unsigned_abs());
         if amount < 0 {
+            let worth = portion(factors, amount.unsigned_abs());
             Balance {
                 gains,
                 losses: Side::both(|side| side.of(losses) + side.of(worth)),
             }
         } else {
+            let worth = portion(factors, amount as u32);
             Balance {
                 gains: Side::both(|side| side.of(gains) + side.of(worth)),
                 losses,
@@ -98,7 +99,7 @@ impl Curve {
         };
         for (flow, factors) in flows.iter().zip(&self.tables.factors) {
             if let Some(amount) = flow {
-                balance = balance.with_flow(*factors, *amount);
+                balance = balance.with_flow(factors, *amount);
             }
         }
         Ok(balance.left())
