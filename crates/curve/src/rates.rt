@@ -32,17 +32,22 @@ impl Falling for Compound {
         factor
     }
 
-    // It moves by twice the difference of the two factors over the years times their sum.
+    // It moves by twice the difference of two factors over the years times their sum; on the high side the one aimed at is just below
+    // the limit.
     fn mended(&self, side: Side, limit: u64, growth: u64) -> u64 {
         let growth = growth.clamp(LEAST, MOST);
+        let aim = match side {
+            Side::Low => limit,
+            Side::High => limit.wrapping_sub(1),
+        };
         let reached = self.at(side, growth);
-        let off = reached.abs_diff(limit);
+        let off = reached.abs_diff(aim);
         let scale = reached
-            .wrapping_add(limit)
+            .wrapping_add(aim)
             .wrapping_mul(u64::from(self.years))
             .max(1);
         let shift = growth.wrapping_mul(2).wrapping_mul(off) / scale;
-        if reached < limit {
+        if reached < aim {
             growth.wrapping_sub(shift)
         } else {
             growth.wrapping_add(shift)

@@ -1,5 +1,4 @@
-use Rattle.std.proofs.Common.{◌≡◌, Ok, Result, ℤ, rules}
-use Rattle.instruments.specs.declared.refusal.Refusal.{Refusal}
+use Rattle.std.proofs.Common.{Ok, rules}
 use Rattle.curve.specs.Exact.{Rising, RateBetween}
 use Rattle.curve.specs.Rates.{asked_rate}
 use Rattle.curve.proofs.Answered.{follows, rate_ordered, rate_between}

@@ -1,8 +1,5 @@
-use Rattle.std.proofs.Common.{◌≡◌, ℕ, ◌-◌, ◌*◌, ◌/◌, min, max, sym, ap, ◌∙◌}
-use Rattle.curve.specs.Range.{unit, least, most}
-use Rattle.curve.specs.Steps.{quotient, side_of}
-use Rattle.curve.specs.declared.side.Side.{Side}
-use Rattle.curve.specs.declared.side.Side.TheVariants.{Low, High}
+use Rattle.std.proofs.Common.{◌≡◌, ◌-◌, ◌/◌, sym, ap, ◌∙◌}
+use Rattle.curve.specs.Steps.{side_of}
 use Rattle.curve.proofs.OneYear.{divisor, one_year_edge}
 use Rattle.curve.proofs.gap.Gap.in_one_year.Goals as goal
 use Rattle.curve.proofs.gap.Gap.in_one_year.Goals.{in-Low, in-High}

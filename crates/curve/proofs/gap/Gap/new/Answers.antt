@@ -1,12 +1,9 @@
-use Rattle.std.proofs.Common.{◌≡◌, ℕ, ◌+◌, ◌-◌, ◌*◌, ◌<◌, ◌≤◌, min, refl, ap, ◌∙◌, arith, rules}
+use Rattle.std.proofs.Common.{◌+◌, ◌*◌, ◌≤◌, ◌∙◌, arith, rules}
 use Rattle.std.proofs.iter.Serving.{serving}
-use Rattle.instruments.specs.Law.{Meaning, Lawful}
-use Rattle.curve.specs.Market.{Ordered, factor_of}
-use Rattle.curve.specs.Steps.{side_of, pair}
-use Rattle.curve.specs.Worths.{worth}
+use Rattle.curve.specs.Market.{factor_of}
+use Rattle.curve.specs.Steps.{side_of}
 use Rattle.curve.specs.declared.side.Side.{Side}
 use Rattle.curve.specs.declared.side.Side.TheVariants.{Low, High}
-use Rattle.curve.specs.declared.tables.Tables.{Tables}
 use Rattle.curve.proofs.Bounds.{factor_small}
 use Rattle.curve.proofs.Sums.{known_none, added_small, known_more, known_all, known_small}
 use Rattle.curve.proofs.gap.Gap.new.Goals as goal
