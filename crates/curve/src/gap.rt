@@ -66,8 +66,8 @@ pub(crate) struct Gap<K> {
     pub(crate) start: (u64, u64),
     pub(crate) known: (u64, u64),
     ghost year: { last ≤ 120 },
-    ghost started: { (start.0 ≤ unit) × (start.1 ≤ unit) },
-    ghost small: { (known.0 ≤ 240000000000000000) × (known.1 ≤ 240000000000000000) },
+    ghost started: { (side : Side) → side_of side start ≤ unit },
+    ghost small: { (side : Side) → side_of side known ≤ 240000000000000000 },
 }
 
 impl<K: Instrument> Falling for Gap<K> {
@@ -80,6 +80,7 @@ impl<K: Instrument> Falling for Gap<K> {
     fn at(&self, side: Side, growth: u64) -> u64 {
         let mut factor = side.of(self.start);
         let mut worth = side.of(self.known);
+        // with `..=` here and below, the instructions for stripping curves were a thirtieth more
         for year in self.last + 1..self.instrument.maturity() + 1 {
             factor = side.discount(factor, growth);
             worth += self.instrument.payment(year) * factor;

@@ -3,7 +3,6 @@ use Rattle.std.proofs.iter.Serving.{serving}
 use Rattle.curve.specs.Market.{factor_of}
 use Rattle.curve.specs.Steps.{side_of}
 use Rattle.curve.specs.declared.side.Side.{Side}
-use Rattle.curve.specs.declared.side.Side.TheVariants.{Low, High}
 use Rattle.curve.proofs.Bounds.{factor_small}
 use Rattle.curve.proofs.Sums.{known_none, added_small, known_more, known_all, known_small}
 use Rattle.curve.proofs.gap.Gap.new.Goals as goal
@@ -34,13 +33,13 @@ invariant_of-result g c =
     let law = g.met.K.Instrument.lawful c.args.instrument in
     let t = c.loop-year.year in
     let so = c.loop-year.invariant.known in
-    let small : (c.loop-year-test.known.0 ≤ 240000000000000000) × (c.loop-year-test.known.1 ≤ 240000000000000000) = elim c.loop-year-test.branch [
+    let small : (σ : Side) → side_of σ c.loop-year-test.known ≤ 240000000000000000 = elim c.loop-year-test.branch [
       | else-loop-year-test w ↦ rw w.known-is (known_small T c.requires x law t c.loop-year.known (omega (arith, c.maturity.ensures, law.one_year)) so)
       | then-loop-year-test+else-year-year-end w ↦
           let p = w.payment-payment in
           rw w.known-is (known_small T c.requires x law (t + 1) w.both-known.result (omega (arith, c.maturity.ensures, law.one_year)) (known_more T c.requires x law t p.result c.loop-year.known w.both-known.result c.loop-year.auto.year (omega arith) p.ensures so (search rules)))
     ] in
-    record { year = c.requires.ends; started = (factor_small T c.requires Low T.last c.requires.ends, factor_small T c.requires High T.last c.requires.ends); small = small }
+    record { year = c.requires.ends; started = λ σ. factor_small T c.requires σ T.last c.requires.ends; small = small }
 
 pub returns-clause-summed : goal.returns-clause-summed
 returns-clause-summed g c =
