@@ -20,5 +20,6 @@ pub mod Settled
 pub mod Settlement
 pub mod Shares
 pub mod Stripped
+pub mod Sums
 pub mod Verdict
 pub mod Weights

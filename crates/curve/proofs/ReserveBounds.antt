@@ -21,25 +21,25 @@ use Rattle.curve.proofs.Enclosure.{Bounds, outside_add, outside_same, outside_ca
 -- one side of the flows, rounded flow by flow
 portions : (ℤ → ℕ) → Tables → Side → ℕ → List (Option ℤ) → ℕ
 portions side T σ t [] = 0
-portions side T σ t (x ∷ xs) = portion T t (part_of side x) σ + portions side T σ (t + 1) xs
+portions side T σ t (x ∷ xs) = portion (entry T.factors t) (part_of side x) σ + portions side T σ (t + 1) xs
 
-nothing : (T : Tables) (t : ℕ) (σ : Side) → portion T t 0 σ ≡ 0
+nothing : (factors : ℕ × ℕ) (σ : Side) → portion factors 0 σ ≡ 0
 unfolding portion quotient
-nothing T t Low = omega arith
-nothing T t High = omega arith
+nothing factors Low = omega arith
+nothing factors High = omega arith
 
 -- a flow's share is its gain less its loss
-share_parts : (T : Tables) (t : ℕ) (x : Option ℤ) (σ : Side) → flow_share T t x σ ≡ pos (portion T t (part_of gain x) σ) -ℤ pos (portion T t (part_of loss x) (opposite σ))
-share_parts T t None σ = omega (arith, ints, nothing T t σ, nothing T t (opposite σ))
-share_parts T t (Some (pos a)) σ = omega (arith, ints, nothing T t (opposite σ))
-share_parts T t (Some (negsuc a)) σ = omega (arith, ints, nothing T t σ)
+share_parts : (T : Tables) (t : ℕ) (x : Option ℤ) (σ : Side) → flow_share (entry T.factors t) x σ ≡ pos (portion (entry T.factors t) (part_of gain x) σ) -ℤ pos (portion (entry T.factors t) (part_of loss x) (opposite σ))
+share_parts T t None σ = omega (arith, ints, nothing (entry T.factors t) σ, nothing (entry T.factors t) (opposite σ))
+share_parts T t (Some (pos a)) σ = omega (arith, ints, nothing (entry T.factors t) (opposite σ))
+share_parts T t (Some (negsuc a)) σ = omega (arith, ints, nothing (entry T.factors t) σ)
 
 reserve_parts : (T : Tables) (t : ℕ) (xs : List (Option ℤ)) (σ : Side) → reserve_from T t xs σ ≡ pos (portions gain T σ t xs) -ℤ pos (portions loss T (opposite σ) t xs)
 unfolding reserve_from portions
 reserve_parts T t [] σ = refl
 reserve_parts T t (x ∷ xs) σ = omega (arith, ints, share_parts T t x σ, reserve_parts T (t + 1) xs σ)
 
-part_rises : (T : Tables) → Ordered T → (t a : ℕ) → t ≤ 120 → portion T t a Low ≤ portion T t a High
+part_rises : (T : Tables) → Ordered T → (t a : ℕ) → t ≤ 120 → portion (entry T.factors t) a Low ≤ portion (entry T.factors t) a High
 unfolding portion
 part_rises T o t a h =
     omega (arith, quotient_rises Low (a * factor_of T Low t) (a * factor_of T High t) hundredth (omega arith) (mul-le-mul_left a (o.discounting t h).0), quotient_sides (a * factor_of T High t) hundredth (omega arith))
@@ -63,7 +63,7 @@ timely T t (Some a ∷ xs) e = go (timely T (t + 1) xs) (within 0 T.last t) refl
 portions_rise : (side : ℤ → ℕ) (T : Tables) → Ordered T → (t : ℕ) (xs : List (Option ℤ)) → Timely T t xs → portions side T Low t xs ≤ portions side T High t xs
 unfolding portions
 portions_rise side T o t [] h = omega arith
-portions_rise side T o t (None ∷ xs) h = omega (arith, nothing T t Low, nothing T t High, portions_rise side T o (t + 1) xs h)
+portions_rise side T o t (None ∷ xs) h = omega (arith, nothing (entry T.factors t) Low, nothing (entry T.factors t) High, portions_rise side T o (t + 1) xs h)
 portions_rise side T o t (Some a ∷ xs) h = omega (arith, part_rises T o t (side a) (omega (arith, h.0, o.ends)), portions_rise side T o (t + 1) xs h.1)
 
 reserve_rises : (T : Tables) → Ordered T → (xs : List (Option ℤ)) → Timely T 0 xs → reserve_from T 0 xs Low ≤ℤ reserve_from T 0 xs High
@@ -74,7 +74,7 @@ zero_outside Low = omega arith
 zero_outside High = omega arith
 
 -- a rounded portion lies on its side of the exact one
-portion_bounds : (σ : Side) (T : Tables) (t a : ℕ) (x : Fraction) → Bounds σ (factor_of T σ t) x → Outside σ (portion T t a σ * x.bottom) (a * 100 * x.top)
+portion_bounds : (σ : Side) (T : Tables) (t a : ℕ) (x : Fraction) → Bounds σ (factor_of T σ t) x → Outside σ (portion (entry T.factors t) a σ * x.bottom) (a * 100 * x.top)
 unfolding portion
 portion_bounds σ T t a x by =
     let f = factor_of T σ t in let q = quotient σ (a * f) hundredth in
@@ -91,8 +91,8 @@ module _ (T : Tables) (growth : ℕ → Fraction) (e : Encloses T growth) (side 
   abbrev F : ℕ → Fraction
   F = exact_factor growth
 
-  flow_bounds : (t : ℕ) (x : Option ℤ) → Timely T t (x ∷ []) → Outside σ (portion T t (part_of side x) σ * (F t).bottom) (part_of side x * 100 * (F t).top)
-  flow_bounds t None h = outside_same σ 0 0 (portion T t 0 σ * (F t).bottom) (0 * 100 * (F t).top) (omega (arith, ap (λ n. n * (F t).bottom) (nothing T t σ))) (omega arith) (zero_outside σ)
+  flow_bounds : (t : ℕ) (x : Option ℤ) → Timely T t (x ∷ []) → Outside σ (portion (entry T.factors t) (part_of side x) σ * (F t).bottom) (part_of side x * 100 * (F t).top)
+  flow_bounds t None h = outside_same σ 0 0 (portion (entry T.factors t) 0 σ * (F t).bottom) (0 * 100 * (F t).top) (omega (arith, ap (λ n. n * (F t).bottom) (nothing (entry T.factors t) σ))) (omega arith) (zero_outside σ)
   flow_bounds t (Some a) h = portion_bounds σ T t (side a) (F t) (side_bounds σ (entry T.factors t) (F t) (e.factors t h.0))
 
   abbrev Whole : ℕ → List (Option ℤ) → Type 0
@@ -101,7 +101,7 @@ module _ (T : Tables) (growth : ℕ → Fraction) (e : Encloses T growth) (side 
   with_flow : (t : ℕ) (x : Option ℤ) (xs : List (Option ℤ)) → Timely T t (x ∷ []) → Whole (t + 1) xs → Whole t (x ∷ xs)
   unfolding portions exact_total
   with_flow t x xs h rest =
-      let p = portion T t (part_of side x) σ in let P = portions side T σ (t + 1) xs in let R = exact_total side F (t + 1) xs in let a = part_of side x * 100 * (F t).top in
+      let p = portion (entry T.factors t) (part_of side x) σ in let P = portions side T σ (t + 1) xs in let R = exact_total side F (t + 1) xs in let a = part_of side x * 100 * (F t).top in
       outside_same σ (p * (F t).bottom * R.bottom + P * R.bottom * (F t).bottom) (a * R.bottom + R.top * (F t).bottom) ((p + P) * ((F t).bottom * R.bottom)) (a * R.bottom + R.top * (F t).bottom) (omega arith) refl
       (outside_add σ (p * (F t).bottom * R.bottom) (P * R.bottom * (F t).bottom) (a * R.bottom) (R.top * (F t).bottom) (outside_mul σ (p * (F t).bottom) a R.bottom (flow_bounds t x h)) (outside_mul σ (P * R.bottom) R.top (F t).bottom rest))
 

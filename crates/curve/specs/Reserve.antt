@@ -3,7 +3,7 @@ use Rattle.std.specs.Prelude.{ℕ, suc, ◌+◌, ◌*◌, ◌≤◌, List, [], �
 use Rattle.instruments.specs.Law.{ok_map}
 use Rattle.instruments.specs.declared.refusal.Refusal.{Refusal}
 use Rattle.curve.specs.Steps.{quotient, opposite, side_of}
-use Rattle.curve.specs.Market.{factor_of, and_then}
+use Rattle.curve.specs.Market.{entry, and_then}
 use Rattle.curve.specs.Questions.{asked, signed_pair}
 use Rattle.curve.specs.declared.reserve.Balance.{Balance}
 use Rattle.curve.specs.declared.side.Side.{Side}
@@ -13,24 +13,24 @@ use Rattle.curve.specs.declared.tables.Tables.{Tables}
 abbrev pub hundredth : ℕ
 hundredth = 10000000
 
--- what a whole amount of kronor in year t is worth, in hundredths of a krona
-unfoldable pub portion : Tables → ℕ → ℕ → Side → ℕ
-portion T t amount σ = quotient σ (amount * factor_of T σ t) hundredth
+-- what a whole amount of kronor is worth at the factors of its year, in hundredths of a krona
+unfoldable pub portion : ℕ × ℕ → ℕ → Side → ℕ
+portion factors amount σ = quotient σ (amount * side_of σ factors) hundredth
 
 -- the same of a signed amount: a negative one takes the worth of the other side away
-abbrev pub share : Tables → ℕ → ℤ → Side → ℤ
-share T t (pos a) σ = pos (portion T t a σ)
-share T t (negsuc a) σ = neg_ℤ (pos (portion T t (suc a) (opposite σ)))
+abbrev pub share : ℕ × ℕ → ℤ → Side → ℤ
+share factors (pos a) σ = pos (portion factors a σ)
+share factors (negsuc a) σ = neg_ℤ (pos (portion factors (suc a) (opposite σ)))
 
 -- what the entry of a year adds to the reserve: nothing where no flow is held
-abbrev pub flow_share : Tables → ℕ → Option ℤ → Side → ℤ
-flow_share T t None σ = pos 0
-flow_share T t (Some a) σ = share T t a σ
+abbrev pub flow_share : ℕ × ℕ → Option ℤ → Side → ℤ
+flow_share factors None σ = pos 0
+flow_share factors (Some a) σ = share factors a σ
 
 -- the reserve for the flows of the years from t on
 unfoldable pub reserve_from : Tables → ℕ → List (Option ℤ) → Side → ℤ
 reserve_from T t [] σ = pos 0
-reserve_from T t (x ∷ xs) σ = flow_share T t x σ +ℤ reserve_from T (t + 1) xs σ
+reserve_from T t (x ∷ xs) σ = flow_share (entry T.factors t) x σ +ℤ reserve_from T (t + 1) xs σ
 
 -- refuses a flow that is held after the horizon
 abbrev pub flow_within : Tables → ℕ → Option ℤ → Result (Unit {0}) Refusal

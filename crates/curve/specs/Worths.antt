@@ -1,5 +1,5 @@
 -- Factors that go on from a known year, and what payments are worth at them.
-use Rattle.std.specs.Prelude.{ℕ, zero, suc, ◌+◌, ◌*◌, cond, nat_le}
+use Rattle.std.specs.Prelude.{◌≡◌, ℕ, zero, suc, ◌+◌, ◌*◌, ◌^◌, ◌<◌, cond, nat_le}
 use Rattle.instruments.specs.Law.{Meaning}
 use Rattle.curve.specs.Steps.{step, side_of}
 use Rattle.curve.specs.declared.side.Side.{Side}
@@ -29,3 +29,7 @@ worth_from σ known start s pay m g = known + worth (after s pay) (continued σ 
 -- the worth of x at a curve that is known up to year s, from the worth of its payments up to s and the factors of s
 abbrev pub gap_worth : ℕ × ℕ → ℕ × ℕ → ℕ → Meaning → Side → ℕ → ℕ
 gap_worth known start s x σ g = worth_from σ (side_of σ known) (side_of σ start) s x.payment x.maturity g
+
+-- a gap of one year, at which x is worth less than the limit where the factor of that year is one in a unit
+abbrev pub IsShort : ℕ × ℕ → ℕ → Meaning → Side → ℕ → Type 0
+IsShort known s x σ limit = (x.maturity ≡ s + 1) × (side_of σ known + x.payment x.maturity < limit) × (limit < 2 ^ 63)

@@ -5,6 +5,7 @@ ghost use Rattle.curve.specs.Range.{most};
 ghost use Rattle.curve.specs.Questions.{forward_of, asked, asked_forward, asked_factor};
 
 use crate::discount::Curve;
+use crate::side::Side;
 use crate::step::UNIT;
 use instruments::refusal::Refusal;
 
@@ -50,8 +51,8 @@ impl Curve {
         ensures encloses { (growth : ℕ → Fraction) → Encloses self.now.tables growth → IfOk result (ForwardBetween growth year) }
     {
         self.within_horizon(1, year)?;
-        let (low, high) = self.tables.growths[year as usize];
-        Ok((forward_of(low), forward_of(high)))
+        let growths = self.tables.growths[year as usize];
+        Ok(Side::both(|side| forward_of(side.of(growths))))
     }
 
     // The discount factors of a year, low and high, in units.
@@ -61,7 +62,7 @@ impl Curve {
         ensures encloses { (growth : ℕ → Fraction) → Encloses self.now.tables growth → IfOk result (FactorBetween growth year) }
     {
         self.within_horizon(0, year)?;
-        let (low, high) = self.tables.factors[year as usize];
-        Ok((low as i64, high as i64))
+        let factors = self.tables.factors[year as usize];
+        Ok(Side::both(|side| side.of(factors) as i64))
     }
 }

@@ -1,12 +1,12 @@
 // The reserve for a table of cash flows.
-ghost use Rattle.std.specs.Prelude.{◌≡◌, ℕ, ◌+◌, ◌^◌, ◌≤◌, ◌+ℤ◌, IfOk};
+ghost use Rattle.std.specs.Prelude.{◌≡◌, ℕ, ◌+◌, ◌^◌, ◌≤◌, ◌+ℤ◌, IfOk, position, is_some};
 ghost use Rattle.curve.specs.Exact.{Fraction, Encloses, Rising, ReserveBetween};
+ghost use Rattle.curve.specs.Range.{unit};
 ghost use Rattle.curve.specs.Steps.{pair, side_of};
 ghost use Rattle.curve.specs.Questions.{signed_pair};
 ghost use Rattle.curve.specs.Reserve.{portion, share, flows_within, asked_reserve, left_of, largest, Bounded};
 ghost use Rattle.curve.specs.declared.side.Side.{Side};
 
-use crate::blend::HORIZON;
 use crate::discount::Curve;
 use crate::questions::above;
 use crate::side::Side;
@@ -22,66 +22,68 @@ pub(crate) struct Balance {
     pub(crate) losses: (u64, u64),
 }
 
+// The place of the first flow that is held.
+fn first_held(flows: &[Option<i32>]) -> Option<usize>
+    ensures { result ≡ position is_some flows.now }
+{
+    flows.iter().position(|flow| flow.is_some())
+}
+
+// What an amount of kronor is worth at the factors of its year, low and high, in hundredths.
+fn portion(factors: &(u64, u64), amount: u32) -> (u64, u64)
+    requires factors_le_unit { (σ : Side) → side_of σ factors.now ≤ unit }
+    requires amount_bound { amount ≤ 2 ^ 31 }
+    ensures value { result ≡ pair (portion factors.now amount) }
+    ensures small { (σ : Side) → side_of σ result ≤ largest }
+{
+    let kronor = u64::from(amount);
+    Side::both(|side| side.divide(kronor * side.of(*factors), HUNDREDTH))
+}
+
 impl Balance {
+    // The balance with one flow more, at the factors of its year.
+    fn with_flow(self, factors: &(u64, u64), amount: i32) -> Balance
+        requires factors_le_unit { (σ : Side) → side_of σ factors.now ≤ unit }
+        requires room { Bounded 120 self }
+        ensures left { (σ : Side) → left_of result σ ≡ left_of self σ +ℤ share factors.now amount σ }
+        ensures bounded { (n : ℕ) → Bounded n self → Bounded (n + 1) result }
+    {
+        let Balance { gains, losses } = self;
+        if amount < 0 {
+            let worth = portion(factors, amount.unsigned_abs());
+            Balance {
+                gains,
+                losses: Side::both(|side| side.of(losses) + side.of(worth)),
+            }
+        } else {
+            let worth = portion(factors, amount as u32);
+            Balance {
+                gains: Side::both(|side| side.of(gains) + side.of(worth)),
+                losses,
+            }
+        }
+    }
+
     // What the gains leave over the losses, low and high: the losses are those of the other side.
     fn left(self) -> (i64, i64)
         requires { Bounded 121 self }
         ensures { result ≡ signed_pair (left_of self) }
     {
         let Balance { gains, losses } = self;
-        (above(gains.0, losses.1), above(gains.1, losses.0))
+        Side::both(|side| above(side.of(gains), side.opposite().of(losses)))
     }
 }
 
 impl Curve {
-    // What an amount of kronor in a year is worth, low and high, in hundredths.
-    fn portion(&self, year: u8, amount: u32) -> (u64, u64)
-        requires year_bound { year ≤ 120 }
-        requires amount_bound { amount ≤ 2 ^ 31 }
-        ensures value { result ≡ pair (portion self.now.tables year amount) }
-        ensures small { (σ : Side) → side_of σ result ≤ largest }
-    {
-        let (low, high) = self.tables.factors[year as usize];
-        let kronor = u64::from(amount);
-        (
-            Side::Low.divide(kronor * low, HUNDREDTH),
-            Side::High.divide(kronor * high, HUNDREDTH),
-        )
-    }
-
-    // The balance with the flow of one year more.
-    fn with_flow(&self, so_far: Balance, year: u8, amount: i32) -> Balance
-        requires year_bound { year ≤ 120 }
-        requires bounded { Bounded year so_far }
-        ensures left { (σ : Side) → left_of result σ ≡ left_of so_far σ +ℤ share self.now.tables year amount σ }
-        ensures bounded_after { Bounded (year + 1) result }
-    {
-        let Balance { gains, losses } = so_far;
-        if amount < 0 {
-            let (low, high) = self.portion(year, amount.unsigned_abs());
-            Balance {
-                gains,
-                losses: (losses.0 + low, losses.1 + high),
-            }
-        } else {
-            let (low, high) = self.portion(year, amount as u32);
-            Balance {
-                gains: (gains.0 + low, gains.1 + high),
-                losses,
-            }
-        }
-    }
-
     // Refuses the first flow after the curve's last year.
     fn flows_within(&self, flows: &[Option<i32>; 121]) -> Result<(), Refusal>
         ensures { result ≡ flows_within self.now.tables 0 flows.now }
     {
-        for year in self.tables.last + 1..HORIZON + 1 {
-            if flows[year as usize].is_some() {
-                return Err(Refusal::OutsideHorizon(year));
-            }
+        let beyond = self.tables.last + 1;
+        match first_held(&flows[beyond as usize..]) {
+            Some(years) => Err(Refusal::OutsideHorizon(beyond + years as u8)),
+            None => Ok(()),
         }
-        Ok(())
     }
 
     // The reserve for a table of flows by year, in whole kronor: low and high, in hundredths.
@@ -95,9 +97,9 @@ impl Curve {
             gains: (0, 0),
             losses: (0, 0),
         };
-        for (year, flow) in flows.iter().enumerate() {
+        for (flow, factors) in flows.iter().zip(&self.tables.factors) {
             if let Some(amount) = flow {
-                balance = self.with_flow(balance, year as u8, *amount);
+                balance = balance.with_flow(factors, *amount);
             }
         }
         Ok(balance.left())

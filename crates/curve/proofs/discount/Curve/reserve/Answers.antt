@@ -1,5 +1,6 @@
-use Rattle.std.proofs.Common.{◌≡◌, ℕ, ◌+◌, List, ℤ, ◌+ℤ◌, IfOk, Some, None, Ok, Err, Option, Result, sym, ap, ◌∙◌, subst, arith, w32, SFits, rules}
+use Rattle.std.proofs.Common.{◌≡◌, ℕ, List, length, length-append, ℤ, ◌+ℤ◌, IfOk, Some, None, Ok, Err, Option, Result, sym, ap, ◌∙◌, arith, w32, SFits, rules}
 use Rattle.std.proofs.lemmas.Int.{ints, to_z-of_z}
+use Rattle.std.proofs.lemmas.Slice.Zip.{zip_turn, zip_end}
 use Rattle.std.proofs.lemmas.Result.{err_from_is_err_and}
 use Rattle.instruments.specs.Law.{ok_map}
 use Rattle.instruments.specs.declared.refusal.Refusal.{Refusal}
@@ -9,9 +10,8 @@ use Rattle.curve.specs.Reserve.{share, left_of, reserve_from, asked_reserve}
 use Rattle.curve.specs.declared.discount.Curve.{Curve}
 use Rattle.curve.proofs.Answered.{follows}
 use Rattle.curve.proofs.ReserveBounds.{reserve_ordered, reserve_between}
-use Rattle.curve.proofs.Shares.{curve_ordered, Summed, summed_more, summed_all}
+use Rattle.curve.proofs.Shares.{curve_ordered, summed_more, summed_all}
 use Rattle.curve.proofs.discount.Curve.reserve.Goals as goal
-use Rattle.curve.proofs.discount.Curve.reserve.Goals.{in-Some, in_default}
 
 -- the answer is the one defined, so what holds of that holds of it
 record Sound (k : Curve) (xs : List (Option ℤ)) (r : Result (ℤ × ℤ) Refusal) : Type 0 where
@@ -34,29 +34,37 @@ returns-in_err-flows_within c =
     let all = sound c.args.self.now xs c.from_residual.result (e.1 ∙ ap Err e.2 ∙ ap (ok_map (λ _. signed_pair (reserve_from T 0 xs))) c.in_err-flows_within.ensures) in
     record { value = all.value; ordered = all.ordered; encloses = all.encloses }
 
-pub loop-year-preserved : goal.loop-year-preserved
-loop-year-preserved c =
+pub loop-flow-preserved-in-Some-flow : goal.loop-flow-preserved-in-Some-flow
+loop-flow-preserved-in-Some-flow c =
     let T = c.args.self.now.tables in
     let xs = c.args.flows.now in
-    let i = c.loop-year.year in
-    let b = c.loop-year.balance in
-    let so = c.loop-year.invariant in
-    elim c.match-flow.branch [
-      | in-Some w ↦
-          let z = w.in-Some.amount in
-          let fits : SFits w32 z = search rules in
-          let more = w.with_flow-balance.ensures in
-          subst (Summed T xs (i + 1)) (sym w.balance-is)
-          (summed_more T xs i b so (Some z) (omega arith) w.in-Some.is w.with_flow-balance.result (λ σ. more.left σ ∙ ap (λ a. left_of b σ +ℤ share T i a σ) (to_z-of_z w32 z fits)) more.bounded_after)
-      | in_default w ↦
-          subst (Summed T xs (i + 1)) (sym w.balance-is)
-          (summed_more T xs i b so None (omega arith) w.in_default.is b (λ σ. omega (arith, ints)) (λ σ. (omega (arith, (so.1 σ).0), omega (arith, (so.1 σ).1))))
-    ]
+    let i = length c.loop-flow.yielded in
+    let b = c.loop-flow.balance in
+    let so = c.loop-flow.invariant in
+    let z = c.in-Some-flow.amount in
+    let factors = c.in-Some.factors.now in
+    let more = c.with_flow-balance.ensures in
+    let fits : SFits w32 z = search rules in
+    let t = zip_turn xs T.factors c.loop-flow.yielded _ _ c.next.new.self _ (search rules) (search rules) c.loop-flow.yielded_by _ c.in-Some.is c.next.ensures.steps in
+    summed_more T xs i b so (Some z) factors t.0 (sym c.in-Some-flow.is ∙ t.2 None) (t.3 (0, 0)) c.with_flow-balance.result _ (simp length-append) (λ σ. more.left σ ∙ ap (λ a. left_of b σ +ℤ share factors a σ) (to_z-of_z w32 z fits)) (more.bounded i so.1)
+
+pub loop-flow-preserved : goal.loop-flow-preserved
+loop-flow-preserved c =
+    let T = c.args.self.now.tables in
+    let xs = c.args.flows.now in
+    let so = c.loop-flow.invariant in
+    let b = c.loop-flow.balance in
+    let i = length c.loop-flow.yielded in
+    let t = zip_turn xs T.factors c.loop-flow.yielded _ _ c.next.new.self _ (search rules) (search rules) c.loop-flow.yielded_by _ c.in-Some.is c.next.ensures.steps in
+    summed_more T xs i b so None c.in-Some.factors.now t.0 (sym c.in_default.is ∙ t.2 None) (t.3 (0, 0)) b _ (simp length-append) (λ σ. omega (arith, ints)) (λ σ. (omega (arith, (so.1 σ).0), omega (arith, (so.1 σ).1)))
 
 pub left-requires : goal.left-requires
-left-requires c σ = (omega (arith, (c.loop-year.invariant.1 σ).0), omega (arith, (c.loop-year.invariant.1 σ).1))
+left-requires c σ =
+    let end = zip_end c.args.flows.now c.args.self.now.tables.factors c.loop-flow.yielded _ _ c.next.new.self _ (search rules) (search rules) c.loop-flow.yielded_by c.in-None.is c.next.ensures.steps in
+    (omega (arith, (c.loop-flow.invariant.1 σ).0), omega (arith, (c.loop-flow.invariant.1 σ).1))
 
 pub returns : goal.returns
 returns c =
-    let all = sound c.args.self.now c.args.flows.now (Ok c.left.result) (ap Ok c.left.ensures ∙ summed_all c.args.self.now.tables c.args.flows.now c.loop-year.year c.loop-year.balance c.loop-year.invariant (omega arith) c.in_ok-flows_within.ensures) in
+    let end = zip_end c.args.flows.now c.args.self.now.tables.factors c.loop-flow.yielded _ _ c.next.new.self _ (search rules) (search rules) c.loop-flow.yielded_by c.in-None.is c.next.ensures.steps in
+    let all = sound c.args.self.now c.args.flows.now (Ok c.left.result) (ap Ok c.left.ensures ∙ summed_all c.args.self.now.tables c.args.flows.now (length c.loop-flow.yielded) c.loop-flow.balance c.loop-flow.invariant (omega arith) c.in_ok-flows_within.ensures) in
     record { value = all.value; ordered = all.ordered; encloses = all.encloses }

@@ -1,6 +1,6 @@
 use Rattle.std.proofs.Common.{sym, ap, ◌∙◌}
 use Rattle.curve.proofs.Edges.{ended, edge_ended}
-use Rattle.curve.proofs.search.furthest.Goals as goal
+use Rattle.curve.proofs.search.furthest_on.Goals as goal
 
 pub returns-in-Low : goal.returns-in-Low
 returns-in-Low g c =

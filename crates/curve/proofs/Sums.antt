@@ -1,0 +1,73 @@
+-- The worth of an instrument's payments at a curve, summed year by year.
+use Rattle.std.proofs.Common.{◌≡◌, ℕ, ◌<◌, ◌+◌, ◌-◌, ◌*◌, ◌≤◌, min, sym, refl, ap, ◌∙◌, inl, inr, arith}
+use Rattle.std.proofs.lemmas.Bool.{cases_lt}
+use Rattle.instruments.specs.Law.{Meaning, Lawful}
+use Rattle.curve.specs.Market.{Ordered, factor_of}
+use Rattle.curve.specs.Steps.{side_of, pair, step}
+use Rattle.curve.specs.Worths.{continued, level, worth, after, worth_from}
+use Rattle.curve.specs.declared.side.Side.{Side}
+use Rattle.curve.specs.declared.side.Side.TheVariants.{Low, High}
+use Rattle.curve.specs.declared.tables.Tables.{Tables}
+use Rattle.curve.proofs.Bounds.{payment_small}
+use Rattle.curve.proofs.Continuation.{continued_known, continued_turn, worth_turn, worth_past, worth_none, after_yet, after_late, after_none}
+use Rattle.curve.proofs.Shares.{pair_side}
+
+-- the worths of the years before t
+abbrev pub Known : Tables → Meaning → ℕ → ℕ × ℕ → Type 0
+Known T x t known = (σ : Side) → (side_of σ known ≡ worth x.payment (factor_of T σ) (t - 1)) × (side_of σ known ≤ 2000000000000000 * (t - 1))
+
+pub known_none : (T : Tables) (x : Meaning) → Known T x 1 (0, 0)
+unfolding worth
+known_none T x Low = (refl, omega arith)
+known_none T x High = (refl, omega arith)
+
+module _ (T : Tables) (o : Ordered T) (x : Meaning) (law : Lawful x) where
+  -- the payment of a year within the curve
+  pub added_small : (t p : ℕ) → p ≡ x.payment t → t ≤ T.last → (σ : Side) → p * factor_of T σ t ≤ 2000000000000000
+  added_small t p paid within σ = payment_small T o σ t p (omega (arith, o.ends)) (omega (arith, law.payment_limit t))
+
+  pub known_more : (t p : ℕ) (known sums : ℕ × ℕ) → 1 ≤ t → t ≤ T.last → p ≡ x.payment t → Known T x t known → sums ≡ pair (λ σ. side_of σ known + p * factor_of T σ t) → Known T x (t + 1) sums
+  known_more t p known sums one within paid so are σ =
+      let e : t + 1 - 1 ≡ t = omega arith in
+      let sum : side_of σ sums ≡ side_of σ known + p * factor_of T σ t = ap (side_of σ) are ∙ pair_side (λ τ. side_of τ known + p * factor_of T τ t) σ in
+      let product : p * factor_of T σ t ≡ x.payment t * factor_of T σ t = ap (λ n. n * factor_of T σ t) paid in
+      rw e (omega (arith, sum, product, (so σ).0, worth_turn x.payment (factor_of T σ) t one), omega (arith, sum, added_small t p paid within σ, (so σ).1))
+
+  -- there is none after maturity
+  module _ (t : ℕ) (known : ℕ × ℕ) (stopped : t ≡ min x.maturity T.last + 1) (so : Known T x t known) where
+    pub known_all : known ≡ pair (λ σ. worth x.payment (factor_of T σ) T.last)
+    known_all = λ k. (side Low k, side High k)
+      where
+        side : (σ : Side) → side_of σ known ≡ worth x.payment (factor_of T σ) T.last
+        side σ = elim (cases_lt x.maturity T.last) [
+          | inl past ↦ let e : t - 1 ≡ x.maturity = omega arith in (so σ).0 ∙ ap (worth x.payment (factor_of T σ)) e ∙ sym (worth_past x.payment (factor_of T σ) x.maturity T.last law.none_after (omega arith))
+          | inr whole ↦ let e : t - 1 ≡ T.last = omega arith in (so σ).0 ∙ ap (worth x.payment (factor_of T σ)) e
+        ]
+
+    pub known_small : (σ : Side) → side_of σ known ≤ 240000000000000000
+    known_small σ = omega (arith, (so σ).1, o.ends)
+
+-- the years of a gap that begins after year s: the factor and the worth of those before t
+module _ (σ : Side) (known start s : ℕ) (pay : ℕ → ℕ) (g : ℕ) where
+  abbrev gone : ℕ → ℕ
+  gone = continued σ (level start) s (level g)
+
+  abbrev pub Gone : ℕ → ℕ → ℕ → Type 0
+  Gone t factor w = (s < t) × (factor ≡ gone (t - 1)) × (w ≡ known + worth (after s pay) gone (t - 1))
+
+  pub gone_none : Gone (s + 1) start known
+  gone_none =
+      let e : s + 1 - 1 ≡ s = omega arith in
+      (omega arith, rw e (sym (continued_known σ (level start) s (level g) s (omega arith))), rw e (omega (arith, worth_none (after s pay) gone s (after_yet s pay))))
+
+  pub gone_more : (t p factor w next : ℕ) → Gone t factor w → p ≡ pay t → next ≡ step σ factor g → Gone (t + 1) next (w + p * next)
+  gone_more t p factor w next so paid is =
+      let e : t + 1 - 1 ≡ t = omega arith in
+      let here : next ≡ gone t = is ∙ ap (λ q. step σ q g) so.1 ∙ sym (continued_turn σ (level start) s (level g) t so.0) in
+      let after_paid : p ≡ after s pay t = paid ∙ sym (after_late s pay t so.0) in
+      let product : p * next ≡ after s pay t * gone t = cc in
+      (omega (arith, so.0), rw e here, rw e (omega (arith, so.2, product, worth_turn (after s pay) gone t (omega (arith, so.0)))))
+
+  pub gone_all : (t m factor w : ℕ) → Gone t factor w → ((u : ℕ) → m < u → pay u ≡ 0) → m < t → w ≡ worth_from σ known start s pay m g
+  unfolding worth_from
+  gone_all t m factor w so none past = omega (arith, so.2, worth_past (after s pay) gone m (t - 1) (after_none s pay m none) (omega arith))
