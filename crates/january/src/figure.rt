@@ -66,8 +66,7 @@ impl fmt::Display for Ppm {
     fn fmt<W: fmt::Write>(&self, f: &mut fmt::Formatter<W>) -> fmt::Result {
         let whole = self.0 / 10_000;
         let part = self.0 % 10_000;
-        let text = InlineText::<ROOM>::of(format_args!("{whole}.{part:04} %"));
-        f.pad(text.as_str())
+        write_signed(f, i64::from(self.0), format_args!("{whole}.{part:04} %"))
     }
 }
 

@@ -1,7 +1,7 @@
 // What the reserve is worked out from.
 use instruments::class::Class;
 
-pub const CURRENCY: [u8; 3] = [b'S', b'E', b'K'];
+pub const CURRENCY: [u8; 3] = *b"SEK";
 
 pub const CLASS: Class = Class::OccupationalPension;
 
