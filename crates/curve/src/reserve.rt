@@ -10,6 +10,7 @@ ghost use Rattle.curve.specs.declared.side.Side.{Side};
 use crate::discount::Curve;
 use crate::questions::above;
 use crate::side::Side;
+use crate::tables::YEARS;
 use instruments::refusal::Refusal;
 
 // a hundredth of a krona, in products of a krona and a unit
@@ -76,7 +77,7 @@ impl Balance {
 
 impl Curve {
     // Refuses the first flow after the curve's last year.
-    fn flows_within(&self, flows: &[Option<i32>; 121]) -> Result<(), Refusal>
+    fn flows_within(&self, flows: &[Option<i32>; YEARS]) -> Result<(), Refusal>
         ensures { result ≡ flows_within self.now.tables 0 flows.now }
     {
         let beyond = self.tables.last + 1;
@@ -87,7 +88,7 @@ impl Curve {
     }
 
     // The reserve for a table of flows by year, in whole kronor: low and high, in hundredths.
-    pub fn reserve(&self, flows: &[Option<i32>; 121]) -> Result<(i64, i64), Refusal>
+    pub fn reserve(&self, flows: &[Option<i32>; YEARS]) -> Result<(i64, i64), Refusal>
         ensures value { result ≡ asked_reserve self.now.tables flows.now }
         ensures ordered { IfOk result Rising }
         ensures encloses { (growth : ℕ → Fraction) → Encloses self.now.tables growth → IfOk result (ReserveBetween growth flows.now) }

@@ -7,7 +7,8 @@ ghost use Rattle.curve.specs.declared.side.Side.{Side};
 use crate::side::Side;
 use crate::step::{LEAST, MOST};
 
-// A figure for each side at each growth.
+// A figure for each side at each growth. That it falls is asked by the functions below and is no law of the trait: the proof of a law may
+// rest only on specs/, and this one rests on a chain of lemmas in proofs/.
 pub(crate) trait Falling {
     // How often a guess is mended at most.
     const MENDINGS: u8;
