@@ -1,6 +1,7 @@
 -- The answers to a whole input.
 use Rattle.std.specs.Prelude.{ℕ, cond, List, [], ◌∷◌, ◌++◌, Some, None, Ok, Err, Option, Result, ◌==◌}
 use Rattle.instruments.specs.Bonds.{bond_read, bond_body}
+use Rattle.instruments.specs.Classes.{class_named}
 use Rattle.instruments.specs.Law.{ok_map}
 use Rattle.instruments.specs.Swaps.{swap_read, swap_body}
 use Rattle.instruments.specs.declared.class.Class.{Class}
@@ -24,10 +25,6 @@ use Rattle.frames.specs.declared.letter.Letter.TheVariants as letter
 use Rattle.frames.specs.declared.opening.Named.{Named}
 use Rattle.frames.specs.declared.opening.Named.TheVariants.{Swap, Bond}
 use Rattle.frames.specs.declared.opening.Opening.{Opening}
-
--- the class of a byte
-abbrev pub class_named : ℕ → Option Class
-class_named b = cond (b == 0) (Some OccupationalPension) (cond (b == 1) (Some OtherInsurance) None)
 
 -- a kind for a class
 abbrev pub kind_for : Named → Class → Kind

@@ -1,9 +1,7 @@
 // Lines before a book is open.
 ghost use Rattle.std.specs.Prelude.{◌≡◌, ◌++◌, IfOk};
-ghost use Rattle.std.specs.Option.{ok_or};
 ghost use Rattle.instruments.specs.Law.{ok_map};
-ghost use Rattle.instruments.specs.declared.refusal.Refusal.TheVariants.{UnknownKind};
-ghost use Rattle.frames.specs.Inputs.{opening_means, class_named, opening_of, frame_opens, line_opens, closed_answers, answers_left};
+ghost use Rattle.frames.specs.Inputs.{opening_means, opening_of, frame_opens, line_opens, closed_answers, answers_left};
 ghost use Rattle.frames.specs.Promises.{ClosedPromise, PromiseLeft};
 
 use crate::answer::Answer;
@@ -17,17 +15,6 @@ use instruments::class::Class;
 use instruments::refusal::Refusal;
 use std::alloc::AllocError;
 
-// The class of a byte. It is no `TryFrom`, since the type is another crate's.
-fn class_of(byte: u8) -> Result<Class, Refusal>
-    ensures { result ≡ ok_or (class_named byte) UnknownKind }
-{
-    match byte {
-        0 => Ok(Class::OccupationalPension),
-        1 => Ok(Class::OtherInsurance),
-        _ => Err(Refusal::UnknownKind),
-    }
-}
-
 // What a frame opens.
 fn opening_of(frame: Frame) -> Result<Opening, Refusal>
     ensures { ok_map opening_means result ≡ opening_of frame }
@@ -37,7 +24,7 @@ fn opening_of(frame: Frame) -> Result<Opening, Refusal>
     };
     Ok(Opening {
         kind: Named::try_from(kind)?,
-        class: class_of(class)?,
+        class: Class::try_from(class)?,
         terms: Terms::of_code(code)?,
     })
 }

@@ -25,8 +25,8 @@ fn answer_opened<K: Instrument>(
     out: &mut Vec<u8>,
 ) -> Result<(), AllocError>
     requires { length places.old ≡ 60 }
-    ensures answers { OnOk result (out.new.items ≡ out.old.items ++ open_answers (kind_of K.framed K.read K.making opening.class) (opened (span opening.terms) 60) lines.entry) }
-    ensures promise { Promise (span opening.terms) 60 (open_calls (kind_of K.framed K.read K.making opening.class) lines.entry) }
+    ensures answers { OnOk result (out.new.items ≡ out.old.items ++ open_answers (kind_of K.LENGTH K.read K.making opening.class) (opened (span opening.terms) 60) lines.entry) }
+    ensures promise { Promise (span opening.terms) 60 (open_calls (kind_of K.LENGTH K.read K.making opening.class) lines.entry) }
 {
     Session::<K>::open(opening, places).answer_lines(lines, out)
 }

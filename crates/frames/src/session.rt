@@ -35,12 +35,12 @@ pub(crate) fn read_line(line: &[u8]) -> Result<(Letter, Bytes), Answer>
 
 // The call that a frame makes on an open book of a kind.
 fn call_of<K: Instrument>(class: Class, letter: Letter, bytes: &[u8]) -> Result<Call<K>, Refusal>
-    ensures { ok_map (call_means K.means) result ≡ frame_call (kind_of K.framed K.read K.making class) letter bytes.now }
+    ensures { ok_map (call_means K.means) result ≡ frame_call (kind_of K.LENGTH K.read K.making class) letter bytes.now }
 {
     if letter == Letter::Open {
         return Err(Refusal::OutOfTurn);
     }
-    match Frame::read(letter, bytes, K::frame_length())? {
+    match Frame::read(letter, bytes, K::LENGTH)? {
         Frame::Open { .. } => Err(Refusal::OutOfTurn),
         Frame::Quote => {
             let body = &bytes[bytes.len().min(1)..];
@@ -79,7 +79,7 @@ impl<'a, K: Instrument> Session<'a, K> {
     // The answer to a line.
     fn answer(&mut self, line: &[u8]) -> Answer
         ensures class { self.new.class ≡ self.old.class }
-        ensures outcome { (register_of K.read self.new.book, result) ≡ line_outcome (kind_of K.framed K.read K.making self.old.class) (register_of K.read self.old.book) line.now }
+        ensures outcome { (register_of K.read self.new.book, result) ≡ line_outcome (kind_of K.LENGTH K.read K.making self.old.class) (register_of K.read self.old.book) line.now }
     {
         let (letter, bytes) = match read_line(line) {
             Ok(read) => read,
@@ -97,8 +97,8 @@ impl<'a, K: Instrument> Session<'a, K> {
         lines: Lines<'_>,
         out: &mut Vec<u8>,
     ) -> Result<(), AllocError>
-        ensures answers { OnOk result (out.new.items ≡ out.old.items ++ open_answers (kind_of K.framed K.read K.making self.old.class) (register_of K.read self.old.book) lines.entry) }
-        ensures promise { (terms : Terms) → Promise (span terms) 60 (open_calls (kind_of K.framed K.read K.making self.old.class) lines.entry) }
+        ensures answers { OnOk result (out.new.items ≡ out.old.items ++ open_answers (kind_of K.LENGTH K.read K.making self.old.class) (register_of K.read self.old.book) lines.entry) }
+        ensures promise { (terms : Terms) → Promise (span terms) 60 (open_calls (kind_of K.LENGTH K.read K.making self.old.class) lines.entry) }
     {
         for line in lines {
             self.answer(line).write(out)?;

@@ -1,4 +1,5 @@
 pub mod Bonds
+pub mod Classes
 pub mod Deductions
 pub mod Frames
 pub mod Law

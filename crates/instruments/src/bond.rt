@@ -68,23 +68,19 @@ impl Instrument for Bond {
 
     const LENGTH: usize = 10;
 
+    ghost LENGTH = { 10 };
+
     ghost means = { bond_means };
 
     ghost row = { bond_row };
 
     ghost read = { bond_read };
 
-    ghost framed = { 10 };
-
     ghost making = { bond_body };
 
     ghost rows = { Prim.search rules };
 
     ghost back = { Prim.search rules };
-
-    fn frame_length() -> usize {
-        Self::LENGTH
-    }
 
     fn maturity(&self) -> u8 {
         self.maturity

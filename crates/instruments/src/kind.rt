@@ -18,6 +18,9 @@ pub trait Instrument: Copy {
     // The bytes of the frame that enters one quotation: its letter, a year and the kind's numbers.
     const LENGTH: usize;
 
+    // The same for clauses: each kind gives both, and the check holds one to the other.
+    ghost LENGTH: { ℕ };
+
     // What an instrument means.
     ghost means: { Self → Meaning };
 
@@ -29,12 +32,6 @@ pub trait Instrument: Copy {
 
     // The row of what is made for a class from a year and the kind's big-endian numbers, or why nothing is made.
     ghost making: { Class → List ℕ → Result Self.Row Refusal };
-
-    // The length that the associated constant states, for clauses, which cannot name a constant of a kind.
-    ghost framed: { ℕ };
-
-    fn frame_length() -> usize
-        ensures { result ≡ framed };
 
     fn maturity(&self) -> u8
         ensures { result ≡ (means self.now).maturity };

@@ -104,23 +104,19 @@ impl Instrument for Swap {
 
     const LENGTH: usize = 6;
 
+    ghost LENGTH = { 6 };
+
     ghost means = { swap_means };
 
     ghost row = { swap_row };
 
     ghost read = { swap_read };
 
-    ghost framed = { 6 };
-
     ghost making = { swap_body };
 
     ghost rows = { Prim.search rules };
 
     ghost back = { Prim.search rules };
-
-    fn frame_length() -> usize {
-        Self::LENGTH
-    }
 
     fn maturity(&self) -> u8 {
         self.maturity

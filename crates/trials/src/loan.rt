@@ -37,23 +37,19 @@ impl Instrument for Loan {
 
     const LENGTH: usize = 10;
 
+    ghost LENGTH = { 10 };
+
     ghost means = { loan_means };
 
     ghost row = { loan_row };
 
     ghost read = { loan_read };
 
-    ghost framed = { 10 };
-
     ghost making = { loan_making };
 
     ghost rows = { Prim.search rules };
 
     ghost back = { Prim.search rules };
-
-    fn frame_length() -> usize {
-        Self::LENGTH
-    }
 
     fn maturity(&self) -> u8 {
         self.maturity

@@ -8,5 +8,5 @@ use Rattle.frames.proofs.respond.answer_opened.Goals as goal
 pub returns-clause-promise : goal.returns-clause-promise
 returns-clause-promise g c =
     let o = c.args.opening in
-    subst (λ class. Promise (span o.terms) 60 (open_calls (kind_of g.K.Instrument.framed g.K.Instrument.read g.K.Instrument.making class) c.args.lines))
+    subst (λ class. Promise (span o.terms) 60 (open_calls (kind_of g.K.Instrument.LENGTH g.K.Instrument.read g.K.Instrument.making class) c.args.lines))
     c.open.ensures.class (c.answer_lines.ensures.promise o.terms)

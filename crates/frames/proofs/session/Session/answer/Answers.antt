@@ -6,7 +6,7 @@ use Rattle.frames.proofs.session.Session.answer.Goals as goal
 
 pub returns-in-Err-call_of : goal.returns-in-Err-call_of
 returns-in-Err-call_of g c =
-    let k = kind_of g.K.Instrument.framed g.K.Instrument.read g.K.Instrument.making c.args.self.now.class in
+    let k = kind_of g.K.Instrument.LENGTH g.K.Instrument.read g.K.Instrument.making c.args.self.now.class in
     let R = register_of g.K.Instrument.read c.args.self.now.book in
     let l = c.in-Ok.read.0 in
     let called = c.in-Err-call_of.ensures ∙ ap (frame_call k l) c.deref.ensures.0 in
