@@ -1,5 +1,5 @@
 -- What a flow adds to a balance, and whether it is refused.
-use Rattle.std.proofs.Common.{◌≡◌, ℕ, zero, suc, ◌+◌, ◌-◌, ◌*◌, ◌^◌, ◌<◌, ◌≤◌, ◌&&◌, List, [], ◌∷◌, length, get_or, take, drop, length-drop, add-one, ℤ, pos, negsuc, ◌+ℤ◌, neg_ℤ, nat_abs, ◌≤ℤ◌, ◌<ℤ◌, is_some, Some, None, Ok, Err, Option, Result, sym, refl, ap, ◌∙◌, mul-le-mul, arith}
+use Rattle.std.proofs.Common.{◌≡◌, ℕ, zero, suc, ◌+◌, ◌-◌, ◌*◌, ◌^◌, ◌<◌, ◌≤◌, ◌&&◌, List, [], ◌∷◌, length, get_or, take, drop, length-drop, add-one, ℤ, ◌+ℤ◌, is_some, Some, None, Ok, Err, Option, Result, sym, refl, ap, ◌∙◌, mul-le-mul, arith}
 use Rattle.std.proofs.lemmas.List.{take_all, at_drop_more, at_drop_all}
 use Rattle.std.proofs.lemmas.Iterator.Adapters.{position_from-zero}
 use Rattle.std.proofs.lemmas.Int.{ints}
@@ -10,10 +10,10 @@ use Rattle.instruments.specs.Limits.{within}
 use Rattle.instruments.specs.declared.refusal.Refusal.{Refusal}
 use Rattle.instruments.specs.declared.refusal.Refusal.TheVariants.{OutsideHorizon}
 use Rattle.curve.specs.Range.{unit}
-use Rattle.curve.specs.Steps.{quotient, opposite, side_of, pair}
+use Rattle.curve.specs.Steps.{quotient, side_of, pair}
 use Rattle.curve.specs.Market.{Ordered, entry, and_then}
 use Rattle.curve.specs.Questions.{signed_pair}
-use Rattle.curve.specs.Reserve.{portion, share, flow_share, reserve_from, flow_within, flows_within, asked_reserve, left_of, hundredth, largest, Bounded}
+use Rattle.curve.specs.Reserve.{portion, flow_share, reserve_from, flow_within, flows_within, asked_reserve, left_of, hundredth, largest, Bounded}
 use Rattle.curve.specs.declared.discount.Curve.{Curve}
 use Rattle.curve.specs.declared.reserve.Balance.{Balance}
 use Rattle.curve.specs.declared.side.Side.{Side}
@@ -39,40 +39,6 @@ unfolding portion
 portion_small factors a h small σ =
     let product : a * side_of σ factors ≤ 2147483648 * unit = mul-le-mul {n₁ = a} {m₁ = side_of σ factors} {n₂ = 2147483648} {m₂ = unit} small (h σ) in
     quotient_most σ (a * side_of σ factors) hundredth largest (omega arith) (omega arith)
-
--- a balance with one gain or one loss more
-abbrev pub gained : Balance → ℕ × ℕ → Balance
-gained b p = record { gains = (b.gains.0 + p.0, b.gains.1 + p.1); losses = b.losses }
-
-abbrev pub lost : Balance → ℕ × ℕ → Balance
-lost b p = record { gains = b.gains; losses = (b.losses.0 + p.0, b.losses.1 + p.1) }
-
-gained_left : (b : Balance) (p : ℕ × ℕ) (σ : Side) → left_of (gained b p) σ ≡ left_of b σ +ℤ pos (side_of σ p)
-gained_left b p Low = omega (arith, ints)
-gained_left b p High = omega (arith, ints)
-
-lost_left : (b : Balance) (p : ℕ × ℕ) (σ : Side) → left_of (lost b p) σ ≡ left_of b σ +ℤ neg_ℤ (pos (side_of (opposite σ) p))
-lost_left b p Low = omega (arith, ints)
-lost_left b p High = omega (arith, ints)
-
-module _ (n : ℕ) (b : Balance) (p : ℕ × ℕ) (within : Bounded n b) (small : (σ : Side) → side_of σ p ≤ largest) where
-  pub gained_within : Bounded (n + 1) (gained b p)
-  gained_within Low = (omega (arith, within Low, small Low), omega (arith, within Low))
-  gained_within High = (omega (arith, within High, small High), omega (arith, within High))
-
-  pub lost_within : Bounded (n + 1) (lost b p)
-  lost_within Low = (omega (arith, within Low), omega (arith, within Low, small Low))
-  lost_within High = (omega (arith, within High), omega (arith, within High, small High))
-
--- one flow more: its share is the portion of its amount, gained or lost by its sign
-module _ (factors : ℕ × ℕ) (b : Balance) (p : ℕ × ℕ) where
-  pub share_gained : (z : ℤ) → p ≡ pair (portion factors (nat_abs z)) → pos 0 ≤ℤ z → (σ : Side) → left_of (gained b p) σ ≡ left_of b σ +ℤ share factors z σ
-  share_gained (pos n) e h σ = gained_left b p σ ∙ ap (λ a. left_of b σ +ℤ pos a) (ap (side_of σ) e ∙ pair_side (portion factors n) σ)
-  share_gained (negsuc n) e h σ = absurd (omega (arith, ints))
-
-  pub share_lost : (z : ℤ) → p ≡ pair (portion factors (nat_abs z)) → z <ℤ pos 0 → (σ : Side) → left_of (lost b p) σ ≡ left_of b σ +ℤ share factors z σ
-  share_lost (pos n) e h σ = absurd (omega (arith, ints))
-  share_lost (negsuc n) e h σ = lost_left b p σ ∙ ap (λ a. left_of b σ +ℤ neg_ℤ (pos a)) (ap (side_of (opposite σ)) e ∙ pair_side (portion factors (suc n)) (opposite σ))
 
 -- the first flow from year t on, by its distance from t, is refused
 abbrev pub refused_at : ℕ → Option ℕ → Result (Unit {0}) Refusal

@@ -2,7 +2,7 @@
 ghost use Rattle.std.specs.Prelude.{◌≡◌, ℕ, ◌+◌, ◌-◌, ◌*◌, ◌^◌, ◌<◌, ◌≤◌};
 ghost use Rattle.curve.specs.Range.{unit, least, most, edge};
 ghost use Rattle.curve.specs.Steps.{side_of, opposite, pair, reaching};
-ghost use Rattle.curve.specs.Market.{Ordered, InRange, factor_of, entry, found, found_growths, admitted, limit, inner, tightened_by, rest_of, Leaves};
+ghost use Rattle.curve.specs.Market.{Ordered, InRange, factor_of, entry, found, found_growths, admitted, limit, tightened_by, rest_of, Leaves};
 ghost use Rattle.curve.specs.Worths.{worth, gap_worth, IsShort};
 ghost use Rattle.curve.specs.declared.side.Side.{Side};
 
@@ -29,16 +29,6 @@ impl Side {
         match self {
             Side::Low => price * 1_000_000 - TOLERANCE,
             Side::High => price * 1_000_000 + TOLERANCE,
-        }
-    }
-
-    // The inner one of two figures.
-    fn inner(self, a: u64, b: u64) -> u64
-        ensures { result ≡ inner self a b }
-    {
-        match self {
-            Side::Low => a.max(b),
-            Side::High => a.min(b),
         }
     }
 

@@ -66,7 +66,8 @@ fn first_below<F: Falling>(f: &F, side: Side, limit: u64, guess: u64) -> u64
 }
 
 // The greatest growth of the range at which the low figure reaches the limit, or the lower end; or the least at which the high figure is
-// below it, or the upper end. Any first guess will do.
+// below it, or the upper end. Any first guess will do. Side and limit stay two parameters: a struct of both would only be taken apart again,
+// since the figures are asked for by the side alone.
 fn furthest_on<F: Falling>(f: &F, side: Side, limit: u64, guess: u64) -> u64
     requires { Falls (F.value f.now side) }
     ensures { result ≡ edge side (reaching side (F.value f.now side) limit) }
