@@ -56,19 +56,12 @@ found_growths w x =
     (cond (nat_lt (found w x.price Low + 1000) (found w x.price High)) (Err (ForwardTooWide x.maturity)) (Ok (pair (found w x.price)))))
 
 -- the factors of a gap with the given growths: down steps by the high growth, up steps by the low growth
-abbrev pub steps_from : List (ℕ × ℕ) → ℕ → ℕ × ℕ → Side → ℕ → ℕ
-steps_from factors s growths σ t = continued σ (λ u. side_of σ (entry factors u)) s (level (side_of (opposite σ) growths)) t
-
 unfoldable pub stepped : Tables → ℕ × ℕ → Side → ℕ → ℕ
-stepped T growths σ t = steps_from T.factors T.last growths σ t
+stepped T growths σ t = continued σ (factor_of T σ) T.last (level (side_of (opposite σ) growths)) t
 
 -- the pair of factors of year t where those up to year s are known, and each later year discounts the one before by its own growths
 abbrev pub discounted_on : Tables → ℕ → ℕ → ℕ × ℕ
 discounted_on T s t = pair (λ σ. continued σ (factor_of T σ) s (growth_of T (opposite σ)) t)
-
--- the pair of factors of a year of the gap
-abbrev pub step_pair : List (ℕ × ℕ) → ℕ → ℕ × ℕ → ℕ → ℕ × ℕ
-step_pair factors s growths t = (steps_from factors s growths Low t, steps_from factors s growths High t)
 
 -- the inner one of two figures: the larger on the low side, the smaller on the high side
 abbrev pub inner : Side → ℕ → ℕ → ℕ

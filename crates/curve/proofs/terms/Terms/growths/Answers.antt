@@ -1,4 +1,4 @@
-use Rattle.std.proofs.Common.{◌≡◌, ℕ, sym, ap, ◌∙◌}
+use Rattle.std.proofs.Common.{sym, ap, ◌∙◌}
 use Rattle.curve.specs.Blending.{blended_growths}
 use Rattle.curve.specs.declared.side.Side.TheVariants.{Low, High}
 use Rattle.curve.proofs.Weights.{weight_late, blended_ultimate, blended_market}
