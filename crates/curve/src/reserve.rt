@@ -30,6 +30,7 @@ fn first_held(flows: &[Option<i32>]) -> Option<usize>
 }
 
 // What an amount of kronor is worth at the factors of its year, low and high, in hundredths.
+#[tactic(auto, using(crate::proofs::Shares::portion_small), unfolding(crate::specs::Reserve::portion))]
 fn portion(factors: &(u64, u64), amount: u32) -> (u64, u64)
     requires factors_le_unit { (σ : Side) → side_of σ factors.now ≤ unit }
     requires amount_bound { amount ≤ 2 ^ 31 }
