@@ -50,6 +50,7 @@ impl Balance {
         ensures bounded { (n : ℕ) → Bounded n self → Bounded (n + 1) result }
     {
         let Balance { gains, losses } = self;
+        // worked out once, before the branch, the portion cost a reserve a seventh more instructions
         if amount < 0 {
             let worth = portion(factors, amount.unsigned_abs());
             Balance {
