@@ -30,6 +30,6 @@ worth_from σ known start s pay m g = known + worth (after s pay) (continued σ 
 abbrev pub gap_worth : ℕ × ℕ → ℕ × ℕ → ℕ → Meaning → Side → ℕ → ℕ
 gap_worth known start s x σ g = worth_from σ (side_of σ known) (side_of σ start) s x.payment x.maturity g
 
--- a gap of one year, at which x is worth less than the limit where the factor of that year is one in a unit
+-- a gap of one year, at which x is worth less than the limit where the factor of that year is a single unit
 abbrev pub IsShort : ℕ × ℕ → ℕ → Meaning → Side → ℕ → Type 0
 IsShort known s x σ limit = (x.maturity ≡ s + 1) × (side_of σ known + x.payment x.maturity < limit) × (limit < 2 ^ 63)

@@ -88,13 +88,11 @@ impl<K: Instrument> Falling for Gap<K> {
         let mut factor = side.of(self.start);
         let mut worth = side.of(self.known);
         let mut slope: u64 = 0;
-        let mut years: u64 = 0;
         for year in self.last + 1..self.instrument.maturity() + 1 {
             factor = factor.wrapping_mul(UNIT).wrapping_add(slack) / growth;
             let part = self.instrument.payment(year).wrapping_mul(factor);
-            years = years.wrapping_add(1);
             worth = worth.wrapping_add(part);
-            slope = slope.wrapping_add(part.wrapping_mul(years));
+            slope = slope.wrapping_add(part.wrapping_mul(u64::from(year - self.last)));
         }
         let off = worth.abs_diff(limit);
         let grain = off / SHORT + 1;

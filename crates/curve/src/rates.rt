@@ -24,6 +24,7 @@ impl Falling for Compound {
     // less would move a guess by less than a unit
     const NEARBY: u64 = 65_536;
 
+    #[tactic(auto, using(crate::proofs::Continuation::continued_known, crate::proofs::Continuation::continued_next))]
     fn at(&self, side: Side, growth: u64) -> u64 {
         let mut factor = UNIT;
         for _year in 0..self.years {

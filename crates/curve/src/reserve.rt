@@ -31,6 +31,7 @@ fn first_held(flows: &[Option<i32>]) -> Option<usize>
 }
 
 // What an amount of kronor is worth at the factors of its year, low and high, in hundredths.
+#[tactic(auto, using(crate::proofs::Shares::portion_small), unfolding(crate::specs::Reserve::portion))]
 fn portion(factors: &(u64, u64), amount: u32) -> (u64, u64)
     requires factors_le_unit { (σ : Side) → side_of σ factors.now ≤ unit }
     requires amount_bound { amount ≤ 2 ^ 31 }
@@ -50,6 +51,7 @@ impl Balance {
         ensures bounded { (n : ℕ) → Bounded n self → Bounded (n + 1) result }
     {
         let Balance { gains, losses } = self;
+        // worked out once, before the branch, the portion cost a reserve a seventh more instructions
         if amount < 0 {
             let worth = portion(factors, amount.unsigned_abs());
             Balance {

@@ -43,6 +43,7 @@ impl Side {
     }
 
     // a / n, rounded down on the low side and up on the high side.
+    #[tactic(auto, unfolding(crate::specs::Steps::quotient))]
     pub(crate) fn divide(self, a: u64, n: u64) -> u64
         requires nonzero { 1 ≤ n }
         requires fits { a + n ≤ 2 ^ 64 }
@@ -55,6 +56,7 @@ impl Side {
     }
 
     // One year's discounting of a factor by a growth.
+    #[tactic(auto, using(crate::proofs::Outward::step_sinks), unfolding(crate::specs::Steps::step))]
     pub(crate) fn discount(self, factor: u64, growth: u64) -> u64
         requires factor_le_unit { factor ≤ unit }
         requires least_le_growth { least ≤ growth }
