@@ -12,7 +12,6 @@ pub mod Extension
 pub mod Gaps
 pub mod Marked
 pub mod OneYear
-pub mod OrderedCurve
 pub mod Outward
 pub mod RateBounds
 pub mod ReserveBounds

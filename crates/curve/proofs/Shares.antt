@@ -11,19 +11,14 @@ use Rattle.instruments.specs.declared.refusal.Refusal.{Refusal}
 use Rattle.instruments.specs.declared.refusal.Refusal.TheVariants.{OutsideHorizon}
 use Rattle.curve.specs.Range.{unit}
 use Rattle.curve.specs.Steps.{quotient, side_of, pair}
-use Rattle.curve.specs.Market.{Ordered, entry, and_then}
+use Rattle.curve.specs.Market.{entry, and_then}
 use Rattle.curve.specs.Questions.{signed_pair}
 use Rattle.curve.specs.Reserve.{portion, flow_share, reserve_from, flow_within, flows_within, asked_reserve, left_of, hundredth, largest, Bounded}
-use Rattle.curve.specs.declared.discount.Curve.{Curve}
 use Rattle.curve.specs.declared.reserve.Balance.{Balance}
 use Rattle.curve.specs.declared.side.Side.{Side}
 use Rattle.curve.specs.declared.side.Side.TheVariants.{Low, High}
 use Rattle.curve.specs.declared.tables.Tables.{Tables}
 use Rattle.curve.proofs.Outward.{quotient_inmost, quotient_sides}
-
--- every curve is ordered
-pub curve_ordered : (k : Curve) → Ordered k.tables
-curve_ordered k = record { ends = k.ends; growing = k.growing; near = k.near; discounting = k.discounting }
 
 pub pair_side : (f : Side → ℕ) (σ : Side) → side_of σ (pair f) ≡ f σ
 pair_side f Low = refl

@@ -4,7 +4,6 @@ ghost use Rattle.curve.specs.Blending.{blended_growth};
 ghost use Rattle.curve.specs.Range.{most};
 
 use crate::side::Side;
-pub(crate) use crate::tables::HORIZON;
 
 // The growth of the ultimate forward rate, 4.2 per cent.
 pub(crate) const ULTIMATE: u64 = 1_042_000_000;

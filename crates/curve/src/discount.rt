@@ -1,5 +1,5 @@
 // A curve that is asked for figures: the market's, as stripped, or the discount curve, as blended.
-ghost use Rattle.curve.specs.Market.{Ends, Growing, Near, Discounting};
+ghost use Rattle.curve.specs.Market.{Ordered};
 
 use crate::gap::Gap;
 use crate::step::{LEAST, UNIT};
@@ -11,10 +11,7 @@ use instruments::refusal::Refusal;
 #[derive(Clone, Copy)]
 pub struct Curve {
     pub(crate) tables: Tables,
-    ghost ends: { Ends tables },
-    ghost growing: { Growing tables },
-    ghost near: { Near tables },
-    ghost discounting: { Discounting tables },
+    ghost ordered: { Ordered tables },
 }
 
 impl Curve {
@@ -41,12 +38,12 @@ impl Curve {
     pub(crate) fn extend<K: Instrument>(&mut self, instrument: K) -> Result<(), Refusal>
         ensures { ok_map (const_of self.new.tables) result ≡ with_gap self.old.tables (K.Instrument.means instrument) }
     {
-        let tables = &mut self.tables;
-        let last = tables.last;
-        let guess = tables.growths[HORIZON as usize].0;
-        let gap = Gap::new(tables, instrument);
+        let last = self.tables.last;
+        let guess = self.tables.growths[HORIZON as usize].0;
+        let gap = Gap::new(self, instrument);
         let growths = gap.growths(guess)?;
         let maturity = gap.maturity();
+        let tables = &mut self.tables;
         tables.growths[last as usize + 1..].fill(growths);
         tables.discount_on(last, maturity);
         let steps = tables.factors[maturity as usize];

@@ -2,14 +2,14 @@
 ghost use Rattle.std.specs.Prelude.{◌≡◌, ℕ, ◌+◌, ◌-◌, ◌*◌, ◌^◌, ◌<◌, ◌≤◌};
 ghost use Rattle.curve.specs.Range.{unit, least, most, edge};
 ghost use Rattle.curve.specs.Steps.{side_of, opposite, pair, reaching};
-ghost use Rattle.curve.specs.Market.{Ordered, InRange, factor_of, entry, found, found_growths, admitted, limit, tightened_by, rest_of, Leaves};
+ghost use Rattle.curve.specs.Market.{InRange, factor_of, entry, found, found_growths, admitted, limit, tightened_by, rest_of, Leaves};
 ghost use Rattle.curve.specs.Worths.{worth, gap_worth, IsShort};
 ghost use Rattle.curve.specs.declared.side.Side.{Side};
 
+use crate::discount::Curve;
 use crate::search::{Falling, furthest};
 use crate::side::Side;
 use crate::step::{LEAST, MOST, UNIT};
-use crate::tables::Tables;
 use instruments::kind::Instrument;
 use instruments::refusal::Refusal;
 
@@ -107,13 +107,13 @@ impl<K: Instrument> Falling for Gap<K> {
 
 impl<K: Instrument> Gap<K> {
     // The gap from a curve's last year on.
-    pub(crate) fn new(tables: &Tables, instrument: K) -> Gap<K>
-        requires { Ordered tables.now }
+    pub(crate) fn new(curve: &Curve, instrument: K) -> Gap<K>
         ensures same { result.instrument ≡ instrument }
-        ensures year { result.last ≡ tables.now.last }
-        ensures begun { result.start ≡ entry tables.now.factors tables.now.last }
-        ensures summed { result.known ≡ pair (λ σ. worth (K.Instrument.means instrument).payment (factor_of tables.now σ) tables.now.last) }
+        ensures year { result.last ≡ curve.now.tables.last }
+        ensures begun { result.start ≡ entry curve.now.tables.factors curve.now.tables.last }
+        ensures summed { result.known ≡ pair (λ σ. worth (K.Instrument.means instrument).payment (factor_of curve.now.tables σ) curve.now.tables.last) }
     {
+        let tables = &curve.tables;
         let last = tables.last;
         let mut known = (0, 0);
         for year in 1..=instrument.maturity().min(last) {

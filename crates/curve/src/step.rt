@@ -1,5 +1,5 @@
-// The range of growths, and 1 as a factor. A growth stays a plain number: as a type with its range it proves, but the definitions see numbers
-// and say the range of the tables' pairs anyway (`InRange`), and the search goes one past it, so the range would be said twice.
+// The range of growths, and 1 as a factor. A growth stays a plain number: a curve says the range of its tables' pairs anyway, with low at most high,
+// and the search goes one past it, so a type with the range would say it twice.
 
 // 1 as a factor, in units of 10^-9
 pub(crate) const UNIT: u64 = 1_000_000_000;

@@ -1,11 +1,10 @@
 -- The answers to a whole input.
-use Rattle.std.specs.Prelude.{ℕ, cond, List, [], ◌∷◌, ◌++◌, Some, None, Ok, Err, Option, Result, ◌==◌}
+use Rattle.std.specs.Prelude.{ℕ, cond, List, [], ◌∷◌, ◌++◌, Some, None, Ok, Err, Option, Result}
 use Rattle.instruments.specs.Bonds.{bond_read, bond_body}
 use Rattle.instruments.specs.Classes.{class_named}
 use Rattle.instruments.specs.Law.{ok_map}
 use Rattle.instruments.specs.Swaps.{swap_read, swap_body}
 use Rattle.instruments.specs.declared.class.Class.{Class}
-use Rattle.instruments.specs.declared.class.Class.TheVariants.{OccupationalPension, OtherInsurance}
 use Rattle.instruments.specs.declared.refusal.Refusal.{Refusal}
 use Rattle.instruments.specs.declared.refusal.Refusal.TheVariants.{OutOfTurn, UnknownKind}
 use Rattle.curve.specs.Currencies.{span, span_of}

@@ -7,7 +7,6 @@ use Rattle.curve.specs.Currencies.{span}
 use Rattle.curve.specs.Exact.{exact_growth, exact_discount, Encloses}
 use Rattle.curve.specs.Market.{Ordered}
 use Rattle.curve.specs.Settling.{last_from, needed}
-use Rattle.curve.proofs.OrderedCurve.{ordered}
 use Rattle.curve.proofs.Settlement.{settled_short, settled_long, settled_encloses}
 use Rattle.curve.proofs.settle.settle.Goals as goal
 
@@ -43,5 +42,5 @@ returns g c =
     record {
       curve = ap Ok is ∙ ap (ok_map (discount terms)) c.in_ok-market.ensures.curve ∙ settled_long terms xs long;
       encloses = λ d a. subst (λ T. Encloses T (exact_discount terms (exact_growth d))) (sym is)
-          (settled_encloses terms xs market.tables c.in_ok-market.ensures.curve (omega (arith, long, c.needed.ensures.value, c.needed.ensures.positive)) (subst Ordered is (ordered made)) d a (c.in_ok-market.ensures.encloses d a));
+          (settled_encloses terms xs market.tables c.in_ok-market.ensures.curve (omega (arith, long, c.needed.ensures.value, c.needed.ensures.positive)) (subst Ordered is made.ordered) d a (c.in_ok-market.ensures.encloses d a));
     }

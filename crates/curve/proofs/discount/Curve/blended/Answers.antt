@@ -4,7 +4,6 @@ use Rattle.curve.specs.Currencies.{span}
 use Rattle.curve.specs.Market.{Ordered}
 use Rattle.curve.specs.declared.tables.Tables.{Tables}
 use Rattle.curve.proofs.Blended.{discount_ordered, blended_growing, discount_is}
-use Rattle.curve.proofs.OrderedCurve.{ordered}
 use Rattle.curve.proofs.discount.Curve.blended.Goals as goal
 use Rattle.curve.proofs.discount.Curve.blended.Goals.{After-discount_on}
 
@@ -14,7 +13,7 @@ returns-in_default c = cc
 
 pub discount_on-requires-clause-growing : goal.discount_on-requires-clause-growing
 discount_on-requires-clause-growing c =
-    blended_growing c.args.terms.now.blend c.args.self.now.tables c.loop-year.growths-items (λ t h. c.loop-year.invariant.1 t (omega arith)) (ordered c.args.self.now)
+    blended_growing c.args.terms.now.blend c.args.self.now.tables c.loop-year.growths-items (λ t h. c.loop-year.invariant.1 t (omega arith)) c.args.self.now.ordered
 
 -- the tables are those of the discount curve
 blends : (c : After-discount_on) → ◌≡◌ {A = Tables} (record { last = 120; growths = c.discount_on.new.self.growths; factors = c.discount_on.new.self.factors }) (discount (span c.args.terms.now) c.args.self.now.tables)
@@ -25,8 +24,8 @@ blends c =
 
 pub invariant_of-result : goal.invariant_of-result
 invariant_of-result c =
-    let all = subst Ordered (sym (blends c)) (discount_ordered c.args.terms.now.blend c.args.self.now.tables (ordered c.args.self.now)) in
-    record { ends = all.ends; growing = all.growing; near = all.near; discounting = all.discounting }
+    let all = subst Ordered (sym (blends c)) (discount_ordered c.args.terms.now.blend c.args.self.now.tables c.args.self.now.ordered) in
+    record { ordered = all }
 
 pub returns : goal.returns
 returns c = blends (goal.at.returns c).After-discount_on

@@ -8,7 +8,6 @@ use Rattle.curve.specs.Steps.{pair}
 use Rattle.curve.specs.declared.tables.Tables.{Tables}
 use Rattle.curve.proofs.Extension.{opened, refused_alike, accepted_alike, extends_alike, leaves_alike, tightened_alike, spread_alike, spread_late, steps_alike, tables_alike}
 use Rattle.curve.proofs.Gaps.{growths_range, stepped_order, stepped_small, extended_ordered}
-use Rattle.curve.proofs.OrderedCurve.{ordered}
 use Rattle.curve.proofs.Verdict.{Accepted}
 use Rattle.curve.proofs.discount.Curve.extend.Given.{Over}
 use Rattle.curve.proofs.discount.Curve.extend.Goals as goal
@@ -21,7 +20,7 @@ returns-in_err-growths g c =
     let n = c.new-gap.ensures in
     let r = c.new-gap.result in
     let same : g.K.Instrument.means r.instrument ≡ x = ap g.K.Instrument.means n.same in
-    let open_is = opened T (ordered c.args.self.now) x (g.met.K.Instrument.lawful c.args.instrument) r.known r.start r.last (g.K.Instrument.means r.instrument) same n.year n.begun n.summed in
+    let open_is = opened T c.args.self.now.ordered x (g.met.K.Instrument.lawful c.args.instrument) r.known r.start r.last (g.K.Instrument.means r.instrument) same n.year n.begun n.summed in
     let p = err_from_is_err_and c.from_residual.result c.from_residual.ensures.1 in
     rw (p.1, p.2) (refused_alike T x _ _ open_is same c.in_err-growths.field-0.0 c.in_err-growths.ensures)
 
@@ -40,21 +39,21 @@ filled g c =
     let r = c.new-gap.result in
     let growths = c.in_ok-growths.growths in
     let same : g.K.Instrument.means r.instrument ≡ x = ap g.K.Instrument.means n.same in
-    let open_is = opened T (ordered c.args.self.now) x (g.met.K.Instrument.lawful c.args.instrument) r.known r.start r.last (g.K.Instrument.means r.instrument) same n.year n.begun n.summed in
+    let open_is = opened T c.args.self.now.ordered x (g.met.K.Instrument.lawful c.args.instrument) r.known r.start r.last (g.K.Instrument.means r.instrument) same n.year n.begun n.summed in
     let long : length T.growths ≡ 121 = search rules in
     let rest : length (mid_of (T.last + 1) (121 - (T.last + 1)) T.growths) ≡ 121 - (T.last + 1) = grind (arith, places) in
     let over = ap (put_mid (T.last + 1) (121 - (T.last + 1)) T.growths) (c.fill.ensures.after (λ y e. λ i. (e.0 i, e.1 i))) in
     record {
       accepts = accepted_alike T x _ _ open_is same growths c.in_ok-growths.ensures;
-      late = λ t h k. rw over (spread_late T growths _ c.args.self.now.ends long rest t h k);
-      is = over ∙ spread_alike T growths _ c.args.self.now.ends long rest;
+      late = λ t h k. rw over (spread_late T growths _ c.args.self.now.ordered.ends long rest t h k);
+      is = over ∙ spread_alike T growths _ c.args.self.now.ordered.ends long rest;
     }
 
 pub discount_on-requires-clause-growing : goal.discount_on-requires-clause-growing
 unfolding extended
 discount_on-requires-clause-growing g c =
     let f = filled g (goal.at.discount_on-requires-clause-growing g c).After-fill in
-    let all = extended_ordered c.args.self.now.tables (ordered c.args.self.now) (g.K.Instrument.means c.args.instrument) (g.met.K.Instrument.lawful c.args.instrument) c.in_ok-growths.growths f.accepts in
+    let all = extended_ordered c.args.self.now.tables c.args.self.now.ordered (g.K.Instrument.means c.args.instrument) (g.met.K.Instrument.lawful c.args.instrument) c.in_ok-growths.growths f.accepts in
     subst (λ table. (t : ℕ) → t ≤ 120 → InRange (entry table t)) (sym f.is) all.growing
 
 -- the tables before the factors at maturity are tightened: the growths fill the gap, and the factors go on by its steps
@@ -78,7 +77,7 @@ pub tightened-requires : goal.tightened-requires
 tightened-requires g c =
     let at = goal.at.tightened-requires g c in
     let T = c.args.self.now.tables in
-    let o = ordered c.args.self.now in
+    let o = c.args.self.now.ordered in
     let x = g.K.Instrument.means c.args.instrument in
     let law = g.met.K.Instrument.lawful c.args.instrument in
     let n = c.new-gap.ensures in
@@ -106,7 +105,7 @@ extends : (g : Over) (c : After-tightened g)
     (extended c.args.self.now.tables (g.K.Instrument.means c.args.instrument) c.in_ok-growths.growths)
 extends g c f d =
     let T = c.args.self.now.tables in
-    let o = ordered c.args.self.now in
+    let o = c.args.self.now.ordered in
     let x = g.K.Instrument.means c.args.instrument in
     let law = g.met.K.Instrument.lawful c.args.instrument in
     let n = c.new-gap.ensures in
@@ -119,13 +118,13 @@ extends g c f d =
     let tight = c.tightened.ensures ∙ tightened_alike T x _ _ (opened T o x law r.known r.start r.last (g.K.Instrument.means r.instrument) same n.year n.begun n.summed) same o law growths f.accepts _ steps_are in
     tables_alike T x law growths D m c.tightened.result d.ends d.spread c.discount_on.ensures.long d.reached c.discount_on.ensures.later tight
 
-pub invariant_of-self-2 : goal.invariant_of-self-2
-invariant_of-self-2 g c =
-    let at = goal.at.invariant_of-self-2 g c in
+pub invariant_of-self : goal.invariant_of-self
+invariant_of-self g c =
+    let at = goal.at.invariant_of-self g c in
     let f = filled g at.After-fill in
     let all = subst Ordered (sym (extends g at.After-tightened f (goes_on g at.After-discount_on f)))
-    (extended_ordered c.args.self.now.tables (ordered c.args.self.now) (g.K.Instrument.means c.args.instrument) (g.met.K.Instrument.lawful c.args.instrument) c.in_ok-growths.growths f.accepts) in
-    record { ends = all.ends; growing = all.growing; near = all.near; discounting = all.discounting }
+    (extended_ordered c.args.self.now.tables c.args.self.now.ordered (g.K.Instrument.means c.args.instrument) (g.met.K.Instrument.lawful c.args.instrument) c.in_ok-growths.growths f.accepts) in
+    record { ordered = all }
 
 pub returns : goal.returns
 returns g c =
@@ -135,4 +134,4 @@ returns g c =
     let r = c.new-gap.result in
     let same : g.K.Instrument.means r.instrument ≡ g.K.Instrument.means c.args.instrument = ap g.K.Instrument.means n.same in
     ap Ok (extends g at.After-tightened f (goes_on g at.After-discount_on f))
-    ∙ extends_alike c.args.self.now.tables (g.K.Instrument.means c.args.instrument) _ _ (opened c.args.self.now.tables (ordered c.args.self.now) (g.K.Instrument.means c.args.instrument) (g.met.K.Instrument.lawful c.args.instrument) r.known r.start r.last (g.K.Instrument.means r.instrument) same n.year n.begun n.summed) same c.in_ok-growths.growths c.in_ok-growths.ensures
+    ∙ extends_alike c.args.self.now.tables (g.K.Instrument.means c.args.instrument) _ _ (opened c.args.self.now.tables c.args.self.now.ordered (g.K.Instrument.means c.args.instrument) (g.met.K.Instrument.lawful c.args.instrument) r.known r.start r.last (g.K.Instrument.means r.instrument) same n.year n.begun n.summed) same c.in_ok-growths.growths c.in_ok-growths.ensures

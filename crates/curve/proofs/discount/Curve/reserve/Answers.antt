@@ -10,7 +10,7 @@ use Rattle.curve.specs.Reserve.{share, left_of, reserve_from, asked_reserve}
 use Rattle.curve.specs.declared.discount.Curve.{Curve}
 use Rattle.curve.proofs.Answered.{follows}
 use Rattle.curve.proofs.ReserveBounds.{reserve_ordered, reserve_between}
-use Rattle.curve.proofs.Shares.{curve_ordered, summed_more, summed_all}
+use Rattle.curve.proofs.Shares.{summed_more, summed_all}
 use Rattle.curve.proofs.discount.Curve.reserve.Goals as goal
 
 -- the answer is the one defined, so what holds of that holds of it
@@ -22,7 +22,7 @@ record Sound (k : Curve) (xs : List (Option ℤ)) (r : Result (ℤ × ℤ) Refus
 sound : (k : Curve) (xs : List (Option ℤ)) (r : Result (ℤ × ℤ) Refusal) → r ≡ asked_reserve k.tables xs → Sound k xs r
 sound k xs r e = record {
   value = e;
-  ordered = follows r (asked_reserve k.tables xs) e Rising (reserve_ordered k.tables (curve_ordered k) xs);
+  ordered = follows r (asked_reserve k.tables xs) e Rising (reserve_ordered k.tables k.ordered xs);
   encloses = λ growth enclosed. follows r (asked_reserve k.tables xs) e (ReserveBetween growth xs) (reserve_between k.tables xs growth enclosed);
 }
 

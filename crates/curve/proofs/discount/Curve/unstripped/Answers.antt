@@ -5,7 +5,7 @@ use Rattle.curve.proofs.discount.Curve.unstripped.Goals as goal
 
 pub invariant_of-result : goal.invariant_of-result
 unfolding unstripped
-invariant_of-result c = record { ends = start_ordered.ends; growing = start_ordered.growing; near = start_ordered.near; discounting = start_ordered.discounting }
+invariant_of-result c = record { ordered = start_ordered }
 
 pub returns : goal.returns
 unfolding unstripped

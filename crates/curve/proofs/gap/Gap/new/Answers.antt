@@ -9,48 +9,48 @@ use Rattle.curve.proofs.gap.Gap.new.Goals as goal
 use Rattle.curve.proofs.gap.Gap.new.Goals.{else-loop-year-test, then-loop-year-test+else-year-year-end}
 
 pub loop-year-init : goal.loop-year-init
-loop-year-init g c = record { within = omega arith; known = known_none c.args.tables.now (g.K.Instrument.means c.args.instrument) }
+loop-year-init g c = record { within = omega arith; known = known_none c.args.curve.now.tables (g.K.Instrument.means c.args.instrument) }
 
 pub both-known-requires : goal.both-known-requires
 both-known-requires g c =
     let t = c.loop-year.year in
-    let product : (σ : Side) → c.payment-payment.result * factor_of c.args.tables.now σ t ≤ 2000000000000000 =
-    added_small c.args.tables.now c.requires (g.K.Instrument.means c.args.instrument) (g.met.K.Instrument.lawful c.args.instrument) t c.payment-payment.result c.payment-payment.ensures (omega arith) in
+    let product : (σ : Side) → c.payment-payment.result * factor_of c.args.curve.now.tables σ t ≤ 2000000000000000 =
+    added_small c.args.curve.now.tables c.args.curve.now.ordered (g.K.Instrument.means c.args.instrument) (g.met.K.Instrument.lawful c.args.instrument) t c.payment-payment.result c.payment-payment.ensures (omega arith) in
     let so_far : (σ : Side) → side_of σ c.loop-year.known ≤ 240000000000000000 = λ σ. omega (arith, (c.loop-year.invariant.known σ).1) in
     grind (serving, product, so_far)
 
 pub loop-year-preserved : goal.loop-year-preserved
 loop-year-preserved g c = record {
   within = omega (arith, c.maturity.ensures);
-  known = known_more c.args.tables.now c.requires (g.K.Instrument.means c.args.instrument) (g.met.K.Instrument.lawful c.args.instrument) c.loop-year.year c.payment-payment.result c.loop-year.known c.both-known.result
+  known = known_more c.args.curve.now.tables c.args.curve.now.ordered (g.K.Instrument.means c.args.instrument) (g.met.K.Instrument.lawful c.args.instrument) c.loop-year.year c.payment-payment.result c.loop-year.known c.both-known.result
       c.loop-year.auto.year (omega arith) c.payment-payment.ensures c.loop-year.invariant.known (search rules);
 }
 
 pub invariant_of-result : goal.invariant_of-result
 invariant_of-result g c =
-    let T = c.args.tables.now in
+    let T = c.args.curve.now.tables in
     let x = g.K.Instrument.means c.args.instrument in
     let law = g.met.K.Instrument.lawful c.args.instrument in
     let t = c.loop-year.year in
     let so = c.loop-year.invariant.known in
     let small : (σ : Side) → side_of σ c.loop-year-test.known ≤ 240000000000000000 = elim c.loop-year-test.branch [
-      | else-loop-year-test w ↦ rw w.known-is (known_small T c.requires x law t c.loop-year.known (omega (arith, c.maturity.ensures, law.one_year)) so)
+      | else-loop-year-test w ↦ rw w.known-is (known_small T c.args.curve.now.ordered x law t c.loop-year.known (omega (arith, c.maturity.ensures, law.one_year)) so)
       | then-loop-year-test+else-year-year-end w ↦
           let p = w.payment-payment in
-          rw w.known-is (known_small T c.requires x law (t + 1) w.both-known.result (omega (arith, c.maturity.ensures, law.one_year)) (known_more T c.requires x law t p.result c.loop-year.known w.both-known.result c.loop-year.auto.year (omega arith) p.ensures so (search rules)))
+          rw w.known-is (known_small T c.args.curve.now.ordered x law (t + 1) w.both-known.result (omega (arith, c.maturity.ensures, law.one_year)) (known_more T c.args.curve.now.ordered x law t p.result c.loop-year.known w.both-known.result c.loop-year.auto.year (omega arith) p.ensures so (search rules)))
     ] in
-    record { year = c.requires.ends; started = λ σ. factor_small T c.requires σ T.last c.requires.ends; small = small }
+    record { year = c.args.curve.now.ordered.ends; started = λ σ. factor_small T c.args.curve.now.ordered σ T.last c.args.curve.now.ordered.ends; small = small }
 
 pub returns-clause-summed : goal.returns-clause-summed
 returns-clause-summed g c =
-    let T = c.args.tables.now in
+    let T = c.args.curve.now.tables in
     let x = g.K.Instrument.means c.args.instrument in
     let law = g.met.K.Instrument.lawful c.args.instrument in
     let t = c.loop-year.year in
     let so = c.loop-year.invariant.known in
     elim c.loop-year-test.branch [
-      | else-loop-year-test w ↦ w.known-is ∙ known_all T c.requires x law t c.loop-year.known (omega (arith, c.maturity.ensures, law.one_year)) so
+      | else-loop-year-test w ↦ w.known-is ∙ known_all T c.args.curve.now.ordered x law t c.loop-year.known (omega (arith, c.maturity.ensures, law.one_year)) so
       | then-loop-year-test+else-year-year-end w ↦
           let p = w.payment-payment in
-          w.known-is ∙ known_all T c.requires x law (t + 1) w.both-known.result (omega (arith, c.maturity.ensures, law.one_year)) (known_more T c.requires x law t p.result c.loop-year.known w.both-known.result c.loop-year.auto.year (omega arith) p.ensures so (search rules))
+          w.known-is ∙ known_all T c.args.curve.now.ordered x law (t + 1) w.both-known.result (omega (arith, c.maturity.ensures, law.one_year)) (known_more T c.args.curve.now.ordered x law t p.result c.loop-year.known w.both-known.result c.loop-year.auto.year (omega arith) p.ensures so (search rules))
     ]
