@@ -30,7 +30,7 @@ point() {
         echo "answers: $(grep -rhE '^pub [^ ]+ : goal\.' */proofs | wc -l)"
         echo "invariants and measures: $(grep -rhE '^abbrev pub [^ ]+ : goal\.' */proofs | wc -l)"
         echo "lemmas: $(cat */proofs/*.antt | grep -cE '^(pub )?[^ ]+ : ' || true)"
-        echo "lines of proofs: $(find . -path '*/proofs/*' -name '*.antt' | xargs cat | wc -l)" ;;
+        echo "lines of proofs: $(find */proofs -name '*.antt' -print0 | xargs -0 cat | wc -l)" ;;
     esac
 }
 

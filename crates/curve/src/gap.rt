@@ -19,32 +19,6 @@ const TOLERANCE: u64 = 1_000_000;
 // how far apart the two growths of a gap may be
 const WIDEST: u64 = 1_000;
 
-impl Side {
-    // What a worth within one unit of a price lies between, in products of a ppm and a unit.
-    fn admitted(self, price: u64) -> u64
-        requires one_unit { 1 ≤ price }
-        requires fits { price < 2 ^ 32 }
-        ensures { result ≡ admitted self price }
-    {
-        match self {
-            Side::Low => price * 1_000_000 - TOLERANCE,
-            Side::High => price * 1_000_000 + TOLERANCE,
-        }
-    }
-
-    // From this on a low worth is more than is admitted; below this a high worth is less.
-    fn limit(self, price: u64) -> u64
-        requires one_unit { 1 ≤ price }
-        requires fits { price < 2 ^ 32 }
-        ensures { result ≡ limit self price }
-    {
-        match self {
-            Side::Low => Side::High.admitted(price) + 1,
-            Side::High => Side::Low.admitted(price),
-        }
-    }
-}
-
 // a worth whose product with a growth fits
 const SHORT: u64 = 10_000_000_000;
 
@@ -79,6 +53,7 @@ impl<K: Instrument> Falling for Gap<K> {
     }
 
     // As if the worth were linear in the factor of one year: its slope is then the sum of the worths of the payments, each times its years.
+    // A loop of its own beside that of `at`: it wraps, so that nothing has to fit, and sums the slope besides.
     fn mended(&self, side: Side, limit: u64, growth: u64) -> u64 {
         let growth = growth.clamp(LEAST, MOST);
         let slack = match side {
@@ -116,6 +91,7 @@ impl<K: Instrument> Gap<K> {
         let tables = &curve.tables;
         let last = tables.last;
         let mut known = (0, 0);
+        // by the year, for which the instrument is asked as well as the table
         for year in 1..=instrument.maturity().min(last) {
             let factors = tables.factors[year as usize];
             let payment = instrument.payment(year);
@@ -134,6 +110,27 @@ impl<K: Instrument> Gap<K> {
         ensures { result ≡ (K.Instrument.means self.now.instrument).maturity }
     {
         self.instrument.maturity()
+    }
+
+    // What a worth within one unit of the price lies between, in products of a ppm and a unit.
+    fn admitted(&self, side: Side) -> u64
+        ensures { result ≡ admitted side (K.Instrument.means self.now.instrument).price }
+    {
+        let price = self.instrument.price() * 1_000_000;
+        match side {
+            Side::Low => price - TOLERANCE,
+            Side::High => price + TOLERANCE,
+        }
+    }
+
+    // From this on a low worth is more than is admitted; below this a high worth is less.
+    fn limit(&self, side: Side) -> u64
+        ensures { result ≡ limit side (K.Instrument.means self.now.instrument).price }
+    {
+        match side {
+            Side::Low => self.admitted(Side::High) + 1,
+            Side::High => self.admitted(Side::Low),
+        }
     }
 
     // The furthest growth of a gap of one year, straight from the greatest factor at which the worth is still below the limit.
@@ -158,8 +155,7 @@ impl<K: Instrument> Gap<K> {
     {
         let maturity = self.instrument.maturity();
         let payment = self.instrument.payment(maturity);
-        let price = self.instrument.price();
-        let limits = Side::both(|side| side.limit(price));
+        let limits = Side::both(|side| self.limit(side));
         if maturity == self.last + 1 && self.known.0.max(self.known.1) + payment < limits.1 {
             return Side::both(
                 |side|
@@ -208,15 +204,14 @@ impl<K: Instrument> Gap<K> {
         ensures { result ≡ pair (λ σ. tightened_by (K.Instrument.means self.now.instrument) σ (side_of σ steps) (rest_of (gap_worth self.now.known self.now.start self.now.last (K.Instrument.means self.now.instrument)) (K.Instrument.means self.now.instrument) growths steps (opposite σ))) }
     {
         let payment = self.instrument.payment(self.instrument.maturity());
-        let price = self.instrument.price();
         let rests = Side::both(|side| self.rest(side, growths, steps));
+        let admitted = Side::both(|side| self.admitted(side));
         Side::both(
             |side|
-                requires { (1 ≤ price) × (price < 2 ^ 32) × (1 ≤ payment) × (payment < 2 ^ 32) }
+                requires paid { (1 ≤ payment) × (payment < 2 ^ 32) }
+                requires fits { side_of side admitted < 2 ^ 63 }
             {
-                let left = side
-                    .admitted(price)
-                    .saturating_sub(side.opposite().of(rests));
+                let left = side.of(admitted).saturating_sub(side.opposite().of(rests));
                 side.inner(side.of(steps), side.divide(left, payment))
             },
         )

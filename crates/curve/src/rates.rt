@@ -58,10 +58,8 @@ impl Falling for Compound {
 
 impl Curve {
     // The mean of the low growths of the years up to a year, where a search begins.
-    fn mean_growth(&self, year: u8) -> u64
-        requires { year ≤ 120 }
-    {
-        let years = self.tables.growths[1..=year as usize].iter();
+    fn mean_growth(&self, year: u8) -> u64 {
+        let years = self.tables.growths.iter().skip(1).take(year as usize);
         let sum = years.fold(0u64, |sum, growths| sum.wrapping_add(growths.0));
         sum / u64::from(year).max(1)
     }

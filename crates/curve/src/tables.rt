@@ -14,7 +14,8 @@ pub(crate) const HORIZON: u8 = 120;
 pub const YEARS: usize = HORIZON as usize + 1;
 
 // A curve by year: the low and the high growth (1 plus the forward) and discount factor of each year 0 to 120, in units of 10^-9,
-// and the last year that it answers for.
+// and the last year that it answers for. Growths and factors stand in two tables, since a gap fills the growths of all later years, and factors only
+// up to its maturity. A pair is a plain tuple: what holds of it a curve says of all years at once (`Ordered`), so a type of a pair would say it twice.
 #[derive(Clone, Copy)]
 pub struct Tables {
     pub(crate) last: u8,
