@@ -3,13 +3,11 @@ ghost use Rattle.std.specs.Prelude.{◌≡◌, replicate, if◌then◌else◌, n
 ghost use Rattle.instruments.specs.Limits.{if_kept};
 ghost use Rattle.instruments.specs.declared.refusal.Refusal.TheVariants.{FlowHeld, NoFlow};
 
-use crate::flow::{Flow, LAST_YEAR};
+use crate::flow::Flow;
+use curve::tables::YEARS;
 use instruments::refusal::Refusal;
 
-// the years that a table has, from year 0 on
-const YEARS: usize = LAST_YEAR as usize + 1;
-
-// The amount of each year 0 to the last, where one is held.
+// The amount of each year 0 to the last, where one is held: a fixed table, as the curve has, and no map, so that a book takes no memory of its own.
 #[derive(Clone, Copy)]
 pub(crate) struct Table {
     pub(crate) amounts: [Option<i32>; YEARS],

@@ -15,7 +15,7 @@ use instruments::kind::Instrument;
 use instruments::refusal::Refusal;
 
 // at most so many places are used
-const MOST_PLACES: usize = 60;
+pub const MOST_PLACES: usize = 60;
 
 // The quotations stand as rows in the first `len` places, in rising order of maturity: the caller lends the places, so that a book needs no
 // memory of its own. A settled book keeps the curve of its quotations.
@@ -204,7 +204,7 @@ fn maturity_of<K: Instrument>(row: &K::Row) -> u8
     K::of_row(*row).maturity()
 }
 
-// The first place at which the maturity is not smaller.
+// The first place at which the maturity is not smaller. Not by halves: what is asked is said of any rows, also of rows that do not rise.
 fn first_from<K: Instrument>(rows: &[K::Row], maturity: u8) -> Option<usize>
     ensures { result ≡ position (λ row. nat_le maturity (K.read row).maturity) rows.now }
 {

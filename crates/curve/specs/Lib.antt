@@ -3,6 +3,7 @@ pub mod Currencies
 pub mod Curves
 pub mod Exact
 pub mod Figures
+pub mod Gaps
 pub mod Market
 pub mod Questions
 pub mod Range

@@ -3,7 +3,7 @@ ghost use Rattle.std.specs.Prelude.{◌≡◌, ℕ, ◌+◌, ◌-◌, ◌*◌, �
 ghost use Rattle.curve.specs.Range.{unit, least, most, edge};
 ghost use Rattle.curve.specs.Steps.{side_of, opposite, pair, reaching};
 ghost use Rattle.curve.specs.Market.{InRange, factor_of, entry, found, found_growths, admitted, limit, tightened_by, rest_of, Leaves};
-ghost use Rattle.curve.specs.Worths.{worth, gap_worth, IsShort};
+ghost use Rattle.curve.specs.Worths.{worth, IsShort};
 ghost use Rattle.curve.specs.declared.side.Side.{Side};
 
 use crate::discount::Curve;
@@ -35,7 +35,9 @@ pub(crate) struct Gap<K> {
 }
 
 impl<K: Instrument> Falling for Gap<K> {
-    ghost value = { λ gap. gap_worth gap.known gap.start gap.last (K.Instrument.means gap.instrument) };
+    ghost use Rattle.curve.specs.Gaps.{worth_of};
+
+    ghost value = { worth_of K.means };
 
     const MENDINGS: u8 = 8;
 
@@ -81,12 +83,14 @@ impl<K: Instrument> Falling for Gap<K> {
 }
 
 impl<K: Instrument> Gap<K> {
+    ghost use Rattle.curve.specs.Gaps.{worth_of};
+
     // The gap from a curve's last year on.
     pub(crate) fn new(curve: &Curve, instrument: K) -> Gap<K>
         ensures same { result.instrument ≡ instrument }
         ensures year { result.last ≡ curve.now.tables.last }
         ensures begun { result.start ≡ entry curve.now.tables.factors curve.now.tables.last }
-        ensures summed { result.known ≡ pair (λ σ. worth (K.Instrument.means instrument).payment (factor_of curve.now.tables σ) curve.now.tables.last) }
+        ensures summed { result.known ≡ pair (λ σ. worth (K.means instrument).payment (factor_of curve.now.tables σ) curve.now.tables.last) }
     {
         let tables = &curve.tables;
         let last = tables.last;
@@ -107,14 +111,14 @@ impl<K: Instrument> Gap<K> {
 
     // Where the gap ends.
     pub(crate) fn maturity(&self) -> u8
-        ensures { result ≡ (K.Instrument.means self.now.instrument).maturity }
+        ensures { result ≡ (K.means self.now.instrument).maturity }
     {
         self.instrument.maturity()
     }
 
     // What a worth within one unit of the price lies between, in products of a ppm and a unit.
     fn admitted(&self, side: Side) -> u64
-        ensures { result ≡ admitted side (K.Instrument.means self.now.instrument).price }
+        ensures { result ≡ admitted side (K.means self.now.instrument).price }
     {
         let price = self.instrument.price() * 1_000_000;
         match side {
@@ -125,7 +129,7 @@ impl<K: Instrument> Gap<K> {
 
     // From this on a low worth is more than is admitted; below this a high worth is less.
     fn limit(&self, side: Side) -> u64
-        ensures { result ≡ limit side (K.Instrument.means self.now.instrument).price }
+        ensures { result ≡ limit side (K.means self.now.instrument).price }
     {
         match side {
             Side::Low => self.admitted(Side::High) + 1,
@@ -135,8 +139,8 @@ impl<K: Instrument> Gap<K> {
 
     // The furthest growth of a gap of one year, straight from the greatest factor at which the worth is still below the limit.
     fn in_one_year(&self, side: Side, limit: u64) -> u64
-        requires { IsShort self.now.known self.now.last (K.Instrument.means self.now.instrument) side limit }
-        ensures { result ≡ edge side (reaching side (gap_worth self.now.known self.now.start self.now.last (K.Instrument.means self.now.instrument) side) limit) }
+        requires { IsShort self.now.known self.now.last (K.means self.now.instrument) side limit }
+        ensures { result ≡ edge side (reaching side (worth_of K.means self.now side) limit) }
     {
         let payment = self.instrument.payment(self.instrument.maturity());
         let missed = (limit - side.of(self.known) - 1) / payment;
@@ -151,7 +155,7 @@ impl<K: Instrument> Gap<K> {
     // The furthest growths of the range, low and high.
     #[tactic(auto, using(crate::proofs::Continuation::worth_from_falls))]
     fn furthest_growths(&self, guess: u64) -> (u64, u64)
-        ensures { result ≡ pair (found (gap_worth self.now.known self.now.start self.now.last (K.Instrument.means self.now.instrument)) (K.Instrument.means self.now.instrument).price) }
+        ensures { result ≡ pair (found (worth_of K.means self.now) (K.means self.now.instrument).price) }
     {
         let maturity = self.instrument.maturity();
         let payment = self.instrument.payment(maturity);
@@ -159,7 +163,7 @@ impl<K: Instrument> Gap<K> {
         if maturity == self.last + 1 && self.known.0.max(self.known.1) + payment < limits.1 {
             return Side::both(
                 |side|
-                    requires { IsShort self.now.known self.now.last (K.Instrument.means self.now.instrument) side (side_of side limits) }
+                    requires { IsShort self.now.known self.now.last (K.means self.now.instrument) side (side_of side limits) }
                 { self.in_one_year(side, side.of(limits)) },
             );
         }
@@ -169,7 +173,7 @@ impl<K: Instrument> Gap<K> {
     // The gap's two growths, or why there are none: no growth is small enough if the high one is the least of the range, and none is large
     // enough if the low one is the greatest.
     pub(crate) fn growths(&self, guess: u64) -> Result<(u64, u64), Refusal>
-        ensures { result ≡ found_growths (gap_worth self.now.known self.now.start self.now.last (K.Instrument.means self.now.instrument)) (K.Instrument.means self.now.instrument) }
+        ensures { result ≡ found_growths (worth_of K.means self.now) (K.means self.now.instrument) }
     {
         let maturity = self.instrument.maturity();
         let (low, high) = self.furthest_growths(guess);
@@ -189,8 +193,8 @@ impl<K: Instrument> Gap<K> {
     fn rest(&self, side: Side, growths: (u64, u64), steps: (u64, u64)) -> u64
         requires in_range { InRange growths }
         requires steps_le_unit { side_of side steps ≤ unit }
-        requires leaves { Leaves (gap_worth self.now.known self.now.start self.now.last (K.Instrument.means self.now.instrument)) (K.Instrument.means self.now.instrument) growths steps side }
-        ensures { result ≡ rest_of (gap_worth self.now.known self.now.start self.now.last (K.Instrument.means self.now.instrument)) (K.Instrument.means self.now.instrument) growths steps side }
+        requires leaves { Leaves (worth_of K.means self.now) (K.means self.now.instrument) growths steps side }
+        ensures { result ≡ rest_of (worth_of K.means self.now) (K.means self.now.instrument) growths steps side }
     {
         let payment = self.instrument.payment(self.instrument.maturity());
         self.at(side, side.opposite().of(growths)) - payment * side.of(steps)
@@ -200,8 +204,8 @@ impl<K: Instrument> Gap<K> {
     pub(crate) fn tightened(&self, growths: (u64, u64), steps: (u64, u64)) -> (u64, u64)
         requires in_range { InRange growths }
         requires steps_le_unit { (steps.0 ≤ unit) × (steps.1 ≤ unit) }
-        requires leaves { (σ : Side) → Leaves (gap_worth self.now.known self.now.start self.now.last (K.Instrument.means self.now.instrument)) (K.Instrument.means self.now.instrument) growths steps σ }
-        ensures { result ≡ pair (λ σ. tightened_by (K.Instrument.means self.now.instrument) σ (side_of σ steps) (rest_of (gap_worth self.now.known self.now.start self.now.last (K.Instrument.means self.now.instrument)) (K.Instrument.means self.now.instrument) growths steps (opposite σ))) }
+        requires leaves { (σ : Side) → Leaves (worth_of K.means self.now) (K.means self.now.instrument) growths steps σ }
+        ensures { result ≡ pair (λ σ. tightened_by (K.means self.now.instrument) σ (side_of σ steps) (rest_of (worth_of K.means self.now) (K.means self.now.instrument) growths steps (opposite σ))) }
     {
         let payment = self.instrument.payment(self.instrument.maturity());
         let rests = Side::both(|side| self.rest(side, growths, steps));

@@ -38,7 +38,7 @@ impl Curve {
     pub(crate) fn within_horizon(&self, first: u8, year: u8) -> Result<(), Refusal>
         ensures { result ≡ asked self.now.tables first year tt }
     {
-        if year < first || year > self.tables.last {
+        if !(first..=self.tables.last).contains(&year) {
             return Err(Refusal::OutsideHorizon(year));
         }
         Ok(())

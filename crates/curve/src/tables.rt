@@ -47,7 +47,8 @@ impl Tables {
         ensures later { (t : ℕ) → to < t → entry self.new.factors t ≡ entry self.old.factors t }
     {
         let mut factors = self.factors[from as usize];
-        // by the year, since after a loop over `iter_mut().zip(..)` nothing is known of what it wrote
+        // by the year, since after a loop over `iter_mut().zip(..)` nothing is known of what it wrote; `..=` compares once more
+        // a year
         for year in from as usize + 1..to as usize + 1 {
             factors = discounted(factors, self.growths[year]);
             self.factors[year] = factors;

@@ -79,7 +79,7 @@ impl Terms {
         self.blend.is_some_and(|blend| maturity > blend.convergence)
     }
 
-    // The last liquid point and the time of convergence, unless there is no blend.
+    // The last liquid point and the time of convergence, unless there is no blend: a public answer, which stays a pair.
     pub fn span(&self) -> Option<(u8, u8)>
         ensures { result ≡ span self.now }
     {
@@ -113,7 +113,7 @@ impl Terms {
         }
     }
 
-    // The weight of the ultimate forward rate in a year, as numerator and denominator.
+    // The weight of the ultimate forward rate in a year, as numerator and denominator: a public answer, which stays a pair.
     pub fn weight(&self, year: u8) -> (u8, u8)
         ensures { result ≡ weight (span self.now) year }
     {

@@ -75,7 +75,7 @@ impl Answer {
     }
 }
 
-// Appends a line of digits, all of it or nothing.
+// Appends a line of digits, all of it or nothing. There are at most two figures, so that the room of a line is known.
 fn write_line(head: &[u8; 3], figures: &[i64], out: &mut Vec<u8>) -> Result<(), AllocError>
     requires { length figures.now ≤ 2 }
     ensures { out.new.items ≡ (if is_ok result then out.old.items ++ (hex (head.now ++ figure_bytes figures.now) ++ 10 ∷ []) else out.old.items) }

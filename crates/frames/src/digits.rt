@@ -9,7 +9,7 @@ pub type Line = ArrayVec<u8, 39>;
 
 static DIGITS: [u8; 16] = *b"0123456789ABCDEF";
 
-// Appends two digits for each byte.
+// Appends two digits for each byte. (The kit's `hex` writes lower case into a slice.)
 pub fn spell(bytes: &[u8], line: &mut Line)
     requires { length line.old.items + 2 * length bytes.now ≤ 39 }
     ensures { line.new.items ≡ line.old.items ++ hex bytes.now }

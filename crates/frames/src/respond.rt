@@ -5,13 +5,14 @@ ghost use Rattle.book.specs.Promise.{Promise};
 ghost use Rattle.book.specs.Register.{opened};
 ghost use Rattle.frames.specs.Inputs.{input_answers, answers_left};
 ghost use Rattle.frames.specs.Promises.{InputPromise, PromiseLeft, open_calls};
-ghost use Rattle.frames.specs.Reads.{kind_of};
+ghost use Rattle.frames.specs.Reads.{kind_by};
 ghost use Rattle.frames.specs.Sessions.{open_answers};
 
 use crate::lines::Lines;
 use crate::open::answer_until_open;
 use crate::opening::{Named, Opening};
 use crate::session::Session;
+use book::volume::MOST_PLACES;
 use instruments::bond::{Bond, BondRow};
 use instruments::kind::Instrument;
 use instruments::swap::{Swap, SwapRow};
@@ -25,8 +26,8 @@ fn answer_opened<K: Instrument>(
     out: &mut Vec<u8>,
 ) -> Result<(), AllocError>
     requires { length places.old ≡ 60 }
-    ensures answers { OnOk result (out.new.items ≡ out.old.items ++ open_answers (kind_of K.LENGTH K.read K.making opening.class) (opened (span opening.terms) 60) lines.entry) }
-    ensures promise { Promise (span opening.terms) 60 (open_calls (kind_of K.LENGTH K.read K.making opening.class) lines.entry) }
+    ensures answers { OnOk result (out.new.items ≡ out.old.items ++ open_answers (kind_by K.Instrument opening.class) (opened (span opening.terms) 60) lines.entry) }
+    ensures promise { Promise (span opening.terms) 60 (open_calls (kind_by K.Instrument opening.class) lines.entry) }
 {
     Session::<K>::open(opening, places).answer_lines(lines, out)
 }
@@ -37,8 +38,18 @@ fn answer_after(opening: Opening, lines: Lines<'_>, out: &mut Vec<u8>) -> Result
     ensures promise { PromiseLeft (Some opening) lines.entry }
 {
     match opening.kind {
-        Named::Swap => answer_opened::<Swap>(&mut [SwapRow::default(); 60], opening, lines, out),
-        Named::Bond => answer_opened::<Bond>(&mut [BondRow::default(); 60], opening, lines, out),
+        Named::Swap => answer_opened::<Swap>(
+            &mut [SwapRow::default(); MOST_PLACES],
+            opening,
+            lines,
+            out,
+        ),
+        Named::Bond => answer_opened::<Bond>(
+            &mut [BondRow::default(); MOST_PLACES],
+            opening,
+            lines,
+            out,
+        ),
     }
 }
 

@@ -7,7 +7,7 @@ ghost use Rattle.book.specs.Books.{call_means, register_of};
 ghost use Rattle.book.specs.Promise.{Promise};
 ghost use Rattle.book.specs.Register.{opened};
 ghost use Rattle.frames.specs.Promises.{open_calls};
-ghost use Rattle.frames.specs.Reads.{bytes_read, kind_of};
+ghost use Rattle.frames.specs.Reads.{bytes_read, kind_by};
 ghost use Rattle.frames.specs.Sessions.{line_read, frame_call, line_outcome, open_answers};
 
 use crate::answer::Answer;
@@ -35,7 +35,7 @@ pub(crate) fn read_line(line: &[u8]) -> Result<(Letter, Bytes), Answer>
 
 // The call that a frame makes on an open book of a kind.
 fn call_of<K: Instrument>(class: Class, letter: Letter, bytes: &[u8]) -> Result<Call<K>, Refusal>
-    ensures { ok_map (call_means K.means) result ≡ frame_call (kind_of K.LENGTH K.read K.making class) letter bytes.now }
+    ensures { ok_map (call_means K.means) result ≡ frame_call (kind_by K.Instrument class) letter bytes.now }
 {
     if letter == Letter::Open {
         return Err(Refusal::OutOfTurn);
@@ -79,26 +79,27 @@ impl<'a, K: Instrument> Session<'a, K> {
     // The answer to a line.
     fn answer(&mut self, line: &[u8]) -> Answer
         ensures class { self.new.class ≡ self.old.class }
-        ensures outcome { (register_of K.read self.new.book, result) ≡ line_outcome (kind_of K.LENGTH K.read K.making self.old.class) (register_of K.read self.old.book) line.now }
+        ensures outcome { (register_of K.read self.new.book, result) ≡ line_outcome (kind_by K.Instrument self.old.class) (register_of K.read self.old.book) line.now }
     {
         let (letter, bytes) = match read_line(line) {
             Ok(read) => read,
             Err(refused) => return refused,
         };
+        // no `and_then`: with a closure that changes the book the check did not prove `outcome`
         match call_of::<K>(self.class, letter, &bytes) {
             Ok(call) => Answer::replied(letter, self.book.call(call)),
             Err(refusal) => Answer::refused(letter, refusal),
         }
     }
 
-    // Answers lines, one after another.
+    // Answers lines, one after another. Lines and answers stay two: a source that is used up, and a sink that the caller keeps.
     pub(crate) fn answer_lines(
         &mut self,
         lines: Lines<'_>,
         out: &mut Vec<u8>,
     ) -> Result<(), AllocError>
-        ensures answers { OnOk result (out.new.items ≡ out.old.items ++ open_answers (kind_of K.LENGTH K.read K.making self.old.class) (register_of K.read self.old.book) lines.entry) }
-        ensures promise { (terms : Terms) → Promise (span terms) 60 (open_calls (kind_of K.LENGTH K.read K.making self.old.class) lines.entry) }
+        ensures answers { OnOk result (out.new.items ≡ out.old.items ++ open_answers (kind_by K.Instrument self.old.class) (register_of K.read self.old.book) lines.entry) }
+        ensures promise { (terms : Terms) → Promise (span terms) 60 (open_calls (kind_by K.Instrument self.old.class) lines.entry) }
     {
         for line in lines {
             self.answer(line).write(out)?;

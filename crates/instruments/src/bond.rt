@@ -38,6 +38,7 @@ impl Bond {
         if !(1..=LONGEST).contains(&maturity) {
             return Err(Refusal::BadMaturity(maturity));
         }
+        // one end alone: the other is that of the type
         if coupon > HIGHEST_COUPON {
             return Err(Refusal::BadQuotation(maturity));
         }

@@ -42,6 +42,7 @@ pub trait Instrument: Copy {
     fn payment(&self, year: u8) -> u64
         ensures { result ≡ (means self.now).payment year };
 
+    // No `From` for rows: the laws below speak of these two, at every kind.
     fn to_row(&self) -> Self::Row
         ensures { result ≡ row self.now };
 

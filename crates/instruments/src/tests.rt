@@ -69,7 +69,7 @@ fn payments(rt: HostRuntime) -> Result<(), Fail> {
 fn rows(rt: HostRuntime) -> Result<(), Fail> {
     let held = Swap::new(2, 13_500, Class::OtherInsurance)?.to_row();
     assert_eq!(rt; Swap::of_row(held).to_row(), held);
-    let none = SwapRow {
+    let unlawful = SwapRow {
         maturity: 0,
         quotation: -1,
         class: PENSION,
@@ -79,7 +79,7 @@ fn rows(rt: HostRuntime) -> Result<(), Fail> {
         quotation: 0,
         class: PENSION,
     };
-    assert_eq!(rt; Swap::of_row(none).to_row(), nearest);
+    assert_eq!(rt; Swap::of_row(unlawful).to_row(), nearest);
     let held = Bond::new(2, 40_000, 990_000_000)?.to_row();
     assert_eq!(rt; Bond::of_row(held).to_row(), held);
     Ok(())

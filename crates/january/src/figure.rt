@@ -27,6 +27,7 @@ pub struct Ore(pub i64);
 #[derive(Clone, Copy)]
 struct Grouped(u64);
 
+// Units and öre are two measures, so each has its own type, conversion and text.
 impl From<i64> for Units {
     ghost from_gives = { λ number units. units.0 ≡ number };
 

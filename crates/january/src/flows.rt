@@ -9,6 +9,7 @@ use crate::input::FLOWS;
 use crate::stop::Stop;
 use book::volume::Book;
 use curve::discount::Curve;
+use curve::tables::YEARS;
 use instruments::refusal::Refusal;
 use instruments::swap::Swap;
 
@@ -27,7 +28,7 @@ fn share(curve: &Curve, year: usize, amount: i32) -> Result<(i64, i64), Refusal>
     requires { year ≤ 120 }
     ensures { result ≡ asked_reserve (tables_of curve.now) (slice_set (replicate 121 None) year (Some amount)) }
 {
-    let mut alone = [None; 121];
+    let mut alone = [None; YEARS];
     alone[year] = Some(amount);
     curve.reserve(&alone)
 }
@@ -35,6 +36,7 @@ fn share(curve: &Curve, year: usize, amount: i32) -> Result<(i64, i64), Refusal>
 pub fn print_shares(rt: &impl Print, curve: &Curve) -> Result<(), Stop> {
     println!(rt; "\n5. Cash flows, and what each adds to the reserve\n")?;
     println!(rt; "year        amount       share low      share high")?;
+    // by `enumerate`, since the check then knows that the year is in the table
     for (at, amount) in FLOWS.iter().enumerate() {
         let year = at + 1;
         let worth = Bracket::<Ore>::from(share(curve, year, *amount)?);

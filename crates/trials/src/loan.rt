@@ -3,6 +3,7 @@ ghost use Rattle.std.specs.Prelude.{◌≡◌, ◌≤◌};
 
 use instruments::class::Class;
 use instruments::kind::Instrument;
+use instruments::limits::HIGHEST_PRICE;
 use instruments::refusal::Refusal;
 
 // By how much an instalment is higher than the one before, in ppm of nominal.
@@ -79,7 +80,7 @@ impl Instrument for Loan {
         Loan {
             maturity: from.maturity.clamp(1, 18),
             base: from.base.min(200_000),
-            price: from.price.clamp(1, 2_000_000_000),
+            price: from.price.clamp(1, HIGHEST_PRICE),
         }
     }
 
