@@ -59,8 +59,10 @@ impl Falling for Compound {
 impl Curve {
     // The mean of the low growths of the years up to a year, where a search begins.
     fn mean_growth(&self, year: u8) -> u64 {
-        let years = self.tables.growths.iter().skip(1).take(year as usize);
-        let sum = years.fold(0u64, |sum, growths| sum.wrapping_add(growths.0));
+        let years = self.tables.growths.get(1..=year as usize).unwrap_or(&[]);
+        let sum = years
+            .iter()
+            .fold(0u64, |sum, growths| sum.wrapping_add(growths.0));
         sum / u64::from(year).max(1)
     }
 

@@ -1,7 +1,6 @@
 -- Answers, and the line that each is written as.
 use Rattle.std.specs.Prelude.{ℕ, ◌/◌, ◌%◌, List, [], ◌∷◌, ◌++◌, ℤ, Some, None, Ok, Err, Option, Result}
-use Rattle.std.specs.Int.{w64}
-use Rattle.std.proofs.Common.{of_z}
+use Rattle.std.specs.Int.{w64, cast_unsigned}
 use Rattle.instruments.specs.Refusals.{reported}
 use Rattle.instruments.specs.declared.refusal.Refusal.{Refusal}
 use Rattle.frames.specs.Digits.{hex}
@@ -18,7 +17,7 @@ eight_bytes n =
 -- the bytes of figures, each in two's complement
 abbrev pub figure_bytes : List ℤ → List ℕ
 figure_bytes [] = []
-figure_bytes (figure ∷ figures) = eight_bytes (of_z w64 figure) ++ figure_bytes figures
+figure_bytes (figure ∷ figures) = eight_bytes (cast_unsigned w64 figure) ++ figure_bytes figures
 
 -- the answer to a frame whose letter is read
 abbrev pub reply_answer : Letter → Result (Option (ℤ × ℤ)) Refusal → Answer

@@ -1,7 +1,6 @@
 -- Frames: the letter of each, its length, and what its body holds.
 use Rattle.std.specs.Prelude.{ℕ, List, [], ◌∷◌, length, Ok, Err, Result, ◌==◌, slice_index}
-use Rattle.std.specs.Int.{w32}
-use Rattle.std.proofs.Common.{to_z}
+use Rattle.std.specs.Int.{w32, cast_signed}
 use Rattle.std.specs.Option.{ok_or}
 use Rattle.instruments.specs.Frames.{big_endian}
 use Rattle.instruments.specs.Limits.{if_kept}
@@ -36,7 +35,7 @@ abbrev pub frame_body : Letter → List ℕ → Frame
 frame_body Open bytes = frame.Open (slice_index bytes 1) (slice_index bytes 2) (slice_index bytes 3 ∷ slice_index bytes 4 ∷ slice_index bytes 5 ∷ [])
 frame_body Quote bytes = frame.Quote
 frame_body Withdraw bytes = frame.Withdraw (slice_index bytes 1)
-frame_body Post bytes = frame.Post (slice_index bytes 1) (to_z w32 (big_endian bytes 2))
+frame_body Post bytes = frame.Post (slice_index bytes 1) (cast_signed w32 (big_endian bytes 2))
 frame_body Strike bytes = frame.Strike (slice_index bytes 1)
 frame_body Settle bytes = frame.Settle
 frame_body Forward bytes = frame.Forward (slice_index bytes 1)

@@ -61,16 +61,20 @@ record GoesOn (T : Tables) (x : Meaning) (growths : ℕ × ℕ) (m : ℕ) (D : T
   ends : m ≡ x.maturity
   spread : D.growths ≡ by_year (extended_growths T growths)
   reached : (t : ℕ) → t ≤ m → entry D.factors t ≡ pair (λ σ. stepped T growths σ t)
+  last : entry D.factors m ≡ pair (λ σ. stepped T growths σ x.maturity)
 
 goes_on : (g : Over) (c : After-discount_on g)
     → Filled c.args.self.now.tables (g.K.Instrument.means c.args.instrument) c.in_ok-growths.growths (put_mid (c.args.self.now.tables.last + 1) (121 - (c.args.self.now.tables.last + 1)) c.args.self.now.tables.growths c.fill.new.self)
     → GoesOn c.args.self.now.tables (g.K.Instrument.means c.args.instrument) c.in_ok-growths.growths c.maturity-maturity.result c.discount_on.new.self
 goes_on g c f =
     let m_is = c.maturity-maturity.ensures ∙ ap (λ i. (g.K.Instrument.means i).maturity) c.new-gap.ensures.same in
+    let step : (t : ℕ) → t ≤ c.maturity-maturity.result → entry c.discount_on.new.self.factors t ≡ pair (λ σ. stepped c.args.self.now.tables c.in_ok-growths.growths σ t)
+    = λ t h. c.discount_on.ensures.reached t h ∙ steps_alike c.args.self.now.tables c.in_ok-growths.growths _ f.late t (omega (arith, h, m_is, (g.met.K.Instrument.lawful c.args.instrument).ninety_years)) in
     record {
       ends = m_is;
       spread = c.discount_on.ensures.growths ∙ f.is;
-      reached = λ t h. c.discount_on.ensures.reached t h ∙ steps_alike c.args.self.now.tables c.in_ok-growths.growths _ f.late t (omega (arith, h, m_is, (g.met.K.Instrument.lawful c.args.instrument).ninety_years));
+      reached = step;
+      last = step c.maturity-maturity.result (omega arith) ∙ ap (λ t. pair (λ σ. stepped c.args.self.now.tables c.in_ok-growths.growths σ t)) m_is;
     }
 
 pub tightened-requires : goal.tightened-requires
@@ -87,14 +91,13 @@ tightened-requires g c =
     let f = filled g at.After-fill in
     let a = f.accepts in
     let d = goes_on g at.After-discount_on f in
-    let m = c.maturity-maturity.result in
-    let steps_are : entry c.discount_on.new.self.factors m ≡ pair (λ σ. stepped T growths σ x.maturity) = d.reached m (omega arith) ∙ ap (λ t. pair (λ σ. stepped T growths σ t)) d.ends in record {
+    record {
       in_range = growths_range T o x law growths a;
       steps_le_unit = (
-        omega (arith, ap (λ p. p.0) steps_are, stepped_order T o x law growths a x.maturity, stepped_small T o x law growths a x.maturity),
-        omega (arith, ap (λ p. p.1) steps_are, stepped_small T o x law growths a x.maturity),
+        omega (arith, ap (λ p. p.0) d.last, stepped_order T o x law growths a x.maturity, stepped_small T o x law growths a x.maturity),
+        omega (arith, ap (λ p. p.1) d.last, stepped_small T o x law growths a x.maturity),
       );
-      leaves = leaves_alike T x _ _ (opened T o x law r.known r.start r.last (g.K.Instrument.means r.instrument) same n.year n.begun n.summed) same o law growths a _ steps_are;
+      leaves = leaves_alike T x _ _ (opened T o x law r.known r.start r.last (g.K.Instrument.means r.instrument) same n.year n.begun n.summed) same o law growths a _ d.last;
     }
 
 -- the tables once they are
@@ -114,8 +117,7 @@ extends g c f d =
     let same : g.K.Instrument.means r.instrument ≡ x = ap g.K.Instrument.means n.same in
     let m = c.maturity-maturity.result in
     let D = c.discount_on.new.self in
-    let steps_are : entry D.factors m ≡ pair (λ σ. stepped T growths σ x.maturity) = d.reached m (omega arith) ∙ ap (λ t. pair (λ σ. stepped T growths σ t)) d.ends in
-    let tight = c.tightened.ensures ∙ tightened_alike T x _ _ (opened T o x law r.known r.start r.last (g.K.Instrument.means r.instrument) same n.year n.begun n.summed) same o law growths f.accepts _ steps_are in
+    let tight = c.tightened.ensures ∙ tightened_alike T x _ _ (opened T o x law r.known r.start r.last (g.K.Instrument.means r.instrument) same n.year n.begun n.summed) same o law growths f.accepts _ d.last in
     tables_alike T x law growths D m c.tightened.result d.ends d.spread c.discount_on.ensures.long d.reached c.discount_on.ensures.later tight
 
 pub invariant_of-self : goal.invariant_of-self

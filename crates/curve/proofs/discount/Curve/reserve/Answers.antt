@@ -1,12 +1,9 @@
-use Rattle.std.proofs.Common.{◌≡◌, ℕ, List, length, length-append, ℤ, ◌+ℤ◌, IfOk, Some, None, Ok, Err, Option, Result, sym, ap, ◌∙◌, arith, w32, SFits, rules}
+use Rattle.std.proofs.Common.{◌≡◌, ℕ, List, length, length-append, ℤ, ◌+ℤ◌, IfOk, Some, None, Ok, Option, Result, sym, ap, ◌∙◌, arith, w32, SFits, rules}
 use Rattle.std.proofs.lemmas.Int.{ints, to_z-of_z}
 use Rattle.std.proofs.lemmas.Slice.Zip.{zip_turn, zip_end}
-use Rattle.std.proofs.lemmas.Result.{err_from_is_err_and}
-use Rattle.instruments.specs.Law.{ok_map}
 use Rattle.instruments.specs.declared.refusal.Refusal.{Refusal}
 use Rattle.curve.specs.Exact.{Fraction, Encloses, Rising, ReserveBetween}
-use Rattle.curve.specs.Questions.{signed_pair}
-use Rattle.curve.specs.Reserve.{share, left_of, reserve_from, asked_reserve}
+use Rattle.curve.specs.Reserve.{share, left_of, asked_reserve}
 use Rattle.curve.specs.declared.discount.Curve.{Curve}
 use Rattle.curve.proofs.Answered.{follows}
 use Rattle.curve.proofs.ReserveBounds.{reserve_ordered, reserve_between}
@@ -25,14 +22,6 @@ sound k xs r e = record {
   ordered = follows r (asked_reserve k.tables xs) e Rising (reserve_ordered k.tables k.ordered xs);
   encloses = λ growth enclosed. follows r (asked_reserve k.tables xs) e (ReserveBetween growth xs) (reserve_between k.tables xs growth enclosed);
 }
-
-pub returns-in_err-flows_within : goal.returns-in_err-flows_within
-returns-in_err-flows_within c =
-    let e = err_from_is_err_and c.from_residual.result c.from_residual.ensures.1 in
-    let T = c.args.self.now.tables in
-    let xs = c.args.flows.now in
-    let all = sound c.args.self.now xs c.from_residual.result (e.1 ∙ ap Err e.2 ∙ ap (ok_map (λ _. signed_pair (reserve_from T 0 xs))) c.in_err-flows_within.ensures) in
-    record { value = all.value; ordered = all.ordered; encloses = all.encloses }
 
 pub loop-flow-preserved-in-Some-flow : goal.loop-flow-preserved-in-Some-flow
 loop-flow-preserved-in-Some-flow c =
@@ -57,11 +46,6 @@ loop-flow-preserved c =
     let i = length c.loop-flow.yielded in
     let t = zip_turn xs T.factors c.loop-flow.yielded _ _ c.next.new.self _ (search rules) (search rules) c.loop-flow.yielded_by _ c.in-Some.is c.next.ensures.steps in
     summed_more T xs i b so None c.in-Some.factors.now t.0 (sym c.in_default.is ∙ t.2 None) (t.3 (0, 0)) b _ (simp length-append) (λ σ. omega (arith, ints)) (λ σ. (omega (arith, (so.1 σ).0), omega (arith, (so.1 σ).1)))
-
-pub left-requires : goal.left-requires
-left-requires c σ =
-    let end = zip_end c.args.flows.now c.args.self.now.tables.factors c.loop-flow.yielded _ _ c.next.new.self _ (search rules) (search rules) c.loop-flow.yielded_by c.in-None.is c.next.ensures.steps in
-    (omega (arith, (c.loop-flow.invariant.1 σ).0), omega (arith, (c.loop-flow.invariant.1 σ).1))
 
 pub returns : goal.returns
 returns c =

@@ -18,11 +18,6 @@ loop-year-init g c =
 paid_small : (p factor : ℕ) → p ≤ 2000000 → factor ≤ unit → p * factor ≤ 2000000 * unit
 paid_small p factor small within = mul-le-mul {n₁ = p} {m₁ = factor} {n₂ = 2000000} {m₂ = unit} small within
 
-pub overflow_add-worth : goal.overflow_add-worth
-overflow_add-worth g c =
-    let law = g.met.K.Instrument.lawful c.args.self.now.instrument in
-    record { fits = omega (arith, paid_small c.payment.result c.discount-factor.result (omega (arith, law.payment_limit c.loop-year.year, c.payment.ensures)) c.discount-factor.ensures.upper_bound, c.maturity-year-end.type_inv) }
-
 pub loop-year-preserved : goal.loop-year-preserved
 loop-year-preserved g c =
     let x = c.args.self.now in
