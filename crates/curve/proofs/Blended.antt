@@ -22,7 +22,7 @@ side_of_pair High f = refl
 -- the discount curve with a blend
 horizon_is : (b : Option Blend) (x : Blend) → b ≡ Some x → (T : Tables) (s : ℕ) → s ≡ min x.liquid T.last → horizon_tables (discount_growth (blend_span b) T) (discount_factor (blend_span b) T s) ≡ discount (blend_span b) T
 unfolding discount
-horizon_is None x e T s known = let z : ◌≡◌ {A = ℕ} 0 1 = cc in absurd (omega arith)
+horizon_is None x e T s known = cc
 horizon_is (Some y) x e T s known =
     let same : s ≡ min y.liquid T.last = cc in
     ap (λ k. horizon_tables (discount_growth (blend_span (Some y)) T) (discount_factor (blend_span (Some y)) T k)) same

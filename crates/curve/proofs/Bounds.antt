@@ -12,8 +12,8 @@ factor_small T o Low t h = omega (arith, (o.discounting t h).0, (o.discounting t
 factor_small T o High t h = (o.discounting t h).1
 
 -- a payment at a factor
-pub payment_small : (T : Tables) → Ordered T → (σ : Side) (t p : ℕ) → t ≤ 120 → p ≤ 2000000 → p * factor_of T σ t ≤ 2000000000000000
-payment_small T o σ t p h small = mul-le-mul {n₁ = p} {m₁ = factor_of T σ t} {n₂ = 2000000} {m₂ = unit} small (factor_small T o σ t h)
+pub payment_small : (p factor : ℕ) → p ≤ 2000000 → factor ≤ unit → p * factor ≤ 2000000000000000
+payment_small p factor small within = mul-le-mul {n₁ = p} {m₁ = factor} {n₂ = 2000000} {m₂ = unit} small within
 
 everywhere : (p : ℕ × ℕ) (t : ℕ) → t ≤ 120 → entry (replicate 121 p) t ≡ p
 everywhere p t h = get_or-replicate 121 t p (0, 0) (omega arith)

@@ -4,7 +4,7 @@ use Rattle.std.proofs.lemmas.Bool.{cases_lt}
 use Rattle.curve.specs.Range.{unit}
 use Rattle.curve.specs.Steps.{opposite, quotient, step}
 use Rattle.curve.specs.Worths.{continued, worth}
-use Rattle.curve.specs.Exact.{Fraction, fraction, Between, exact_factor, exact_worth}
+use Rattle.curve.specs.Exact.{Fraction, fraction, exact_factor, exact_worth}
 use Rattle.curve.specs.declared.side.Side.{Side}
 use Rattle.curve.specs.declared.side.Side.TheVariants.{Low, High}
 use Rattle.curve.proofs.Outward.{Outside, outside_trans, outside_mul, quotient_outside}
@@ -14,13 +14,14 @@ use Rattle.curve.proofs.Continuation.{continued_known, continued_suc}
 abbrev pub Bounds : Side → ℕ → Fraction → Type 0
 Bounds σ q x = Outside σ (q * x.bottom) (unit * x.top)
 
-pub between_bounds : (figures : ℕ × ℕ) (x : Fraction) → Bounds Low figures.0 x → Bounds High figures.1 x → Between figures x
-between_bounds figures x low high = (low, high)
-
 -- of two numbers one lies outside the other, on one side or the other
 pub outside_either : (σ : Side) (x y : ℕ) → Outside σ x y ⊎ Outside (opposite σ) x y
 outside_either Low x y = elim (cases_lt y x) [ inl more ↦ inr (omega arith) | inr less ↦ inl less ]
 outside_either High x y = elim (cases_lt x y) [ inl less ↦ inr (omega arith) | inr more ↦ inl more ]
+
+pub zero_outside : (σ : Side) → Outside σ 0 0
+zero_outside Low = omega arith
+zero_outside High = omega arith
 
 pub outside_add : (σ : Side) (a b x y : ℕ) → Outside σ a x → Outside σ b y → Outside σ (a + b) (x + y)
 outside_add Low a b x y p q = omega arith
@@ -72,10 +73,6 @@ continued_bounds σ known s g growth (suc n) start one by = elim (cases_lt s (su
 pub worth_bounds : (σ : Side) (pay f : ℕ → ℕ) (factor : ℕ → Fraction) (n : ℕ) → ((t : ℕ) → t ≤ n → Bounds σ (f t) (factor t)) → Bounds σ (worth pay f n) (exact_worth pay factor n)
 unfolding worth exact_worth
 worth_bounds σ pay f factor zero by = outside_same σ 0 0 (0 * 1) (unit * 0) refl refl (zero_outside σ)
-  where
-    zero_outside : (τ : Side) → Outside τ 0 0
-    zero_outside Low = omega arith
-    zero_outside High = omega arith
 worth_bounds σ pay f factor (suc n) by =
     let w = worth pay f n in let W = exact_worth pay factor n in let p = pay (suc n) in let q = f (suc n) in let F = factor (suc n) in
     outside_same σ ((w * W.bottom) * F.bottom + (q * F.bottom) * (p * W.bottom)) ((unit * W.top) * F.bottom + (unit * F.top) * (p * W.bottom))

@@ -1,5 +1,5 @@
 -- What holds of a gap whose two growths are answered: they lie in the range, and the factors that follow stay in order.
-use Rattle.std.proofs.Common.{◌≡◌, ℕ, ◌+◌, ◌-◌, ◌*◌, ◌<◌, ◌≤◌, Bool, ◌&&◌, eqb, ltb, leb, ◌⊎◌, sym, ◌∙◌, inl, inr, le_of_mul-le-mul_right, arith}
+use Rattle.std.proofs.Common.{◌≡◌, ℕ, ◌+◌, ◌-◌, ◌*◌, ◌<◌, ◌≤◌, Bool, ◌&&◌, eqb, ltb, leb, ◌⊎◌, sym, ◌∙◌, inl, inr, arith}
 use mathlib.Core.Path.{fun_ext}
 use Rattle.std.proofs.lemmas.List.FromFn.{get_or-map-range_with_len}
 use Rattle.std.proofs.lemmas.Bool.{cases_lt, cond_both, leb-true, ltb-true}
@@ -13,16 +13,13 @@ use Rattle.curve.specs.declared.side.Side.TheVariants.{Low, High}
 use Rattle.curve.specs.declared.tables.Tables.{Tables}
 use Rattle.curve.proofs.Outward.{Outside, quotient_outside, quotient_rises, quotient_sides}
 use Rattle.curve.proofs.Continuation.{Under, continued_known, continued_under, continued_small, worth_rises, worth_same, worth_turn, worth_from_is}
+use Rattle.curve.proofs.Enclosure.{outside_cancel}
 use Rattle.curve.proofs.Edges.{edge_passes, edge_range}
 use Rattle.curve.proofs.Verdict.{Accepted}
 
 pub entry_by_year : (f : ℕ → ℕ × ℕ) (t : ℕ) → t ≤ 120 → entry (by_year f) t ≡ f t
 unfolding by_year
 entry_by_year f t h = get_or-map-range_with_len f 0 121 t t (0, 0) (omega arith) (omega arith)
-
-outside_cancel : (σ : Side) (x y k : ℕ) → 1 ≤ k → Outside σ (x * k) (y * k) → Outside σ x y
-outside_cancel Low x y k h p = le_of_mul-le-mul_right p h
-outside_cancel High x y k h p = le_of_mul-le-mul_right p h
 
 module _ (T : Tables) (o : Ordered T) (x : Meaning) where
   factors_under : (σ τ : Side) → Under σ τ → (t : ℕ) → t ≤ T.last → factor_of T σ t ≤ factor_of T τ t

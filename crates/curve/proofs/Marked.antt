@@ -16,6 +16,7 @@ use Rattle.curve.specs.Worths.{continued, level, worth}
 use Rattle.curve.specs.declared.side.Side.{Side}
 use Rattle.curve.specs.declared.side.Side.TheVariants.{Low, High}
 use Rattle.curve.specs.declared.tables.Tables.{Tables}
+use Rattle.curve.proofs.Compounding.{compounded_falls}
 use Rattle.curve.proofs.Continuation.{under_self, continued_under, worth_rises}
 use Rattle.curve.proofs.Edges.{ended, edge_ended}
 use Rattle.curve.proofs.Verdict.{refused_below, refused_above, accepted_pair}
@@ -45,9 +46,6 @@ worth_at_falls : (T : Tables) (x : Meaning) (σ : Side) → Falls (worth_at T x 
 unfolding worth_at
 worth_at_falls T x σ g h one le = worth_rises x.payment _ _ x.maturity
     (λ t a. continued_under σ σ (under_self σ) _ _ T.last (level h) (level g) t (λ _ _. omega arith) (λ _ _ _. one) (λ _ _ _. le))
-
-compounded_falls : (t : ℕ) (σ : Side) → Falls (compounded t σ)
-compounded_falls t σ g h one le = continued_under σ σ (under_self σ) (level unit) (level unit) 0 (level h) (level g) t (λ _ _. omega arith) (λ _ _ _. one) (λ _ _ _. le)
 
 -- a single quotation
 module _ (x : Meaning) where

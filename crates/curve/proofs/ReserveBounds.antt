@@ -16,7 +16,7 @@ use Rattle.curve.specs.declared.side.Side.{Side}
 use Rattle.curve.specs.declared.side.Side.TheVariants.{Low, High}
 use Rattle.curve.specs.declared.tables.Tables.{Tables}
 use Rattle.curve.proofs.Outward.{Outside, outside_trans, outside_mul, quotient_outside, quotient_rises, quotient_sides}
-use Rattle.curve.proofs.Enclosure.{Bounds, outside_add, outside_same, outside_cancel}
+use Rattle.curve.proofs.Enclosure.{Bounds, zero_outside, outside_add, outside_same, outside_cancel}
 
 -- one side of the flows, rounded flow by flow
 portions : (ℤ → ℕ) → Tables → Side → ℕ → List (Option ℤ) → ℕ
@@ -58,7 +58,7 @@ timely T t (Some a ∷ xs) e = go (timely T (t + 1) xs) (within 0 T.last t) refl
   where
     go : (flows_within T (t + 1) xs ≡ Ok (tt {0}) → Timely T (t + 1) xs) → (b : Bool) → within 0 T.last t ≡ b → and_then (cond b (Ok (tt {0})) (Err (OutsideHorizon t))) (λ _. flows_within T (t + 1) xs) ≡ Ok (tt {0}) → (t ≤ T.last) × Timely T (t + 1) xs
     go rest true w f = (leb-true _ _ (and_parts (leb 0 t) (leb t T.last) w).1, rest f)
-    go rest false w f = let z : ◌≡◌ {A = ℕ} 0 1 = cc in absurd (omega arith)
+    go rest false w f = cc
 
 portions_rise : (side : ℤ → ℕ) (T : Tables) → Ordered T → (t : ℕ) (xs : List (Option ℤ)) → Timely T t xs → portions side T Low t xs ≤ portions side T High t xs
 unfolding portions
@@ -68,10 +68,6 @@ portions_rise side T o t (Some a ∷ xs) h = omega (arith, part_rises T o t (sid
 
 reserve_rises : (T : Tables) → Ordered T → (xs : List (Option ℤ)) → Timely T 0 xs → reserve_from T 0 xs Low ≤ℤ reserve_from T 0 xs High
 reserve_rises T o xs h = omega (arith, ints, reserve_parts T 0 xs Low, reserve_parts T 0 xs High, portions_rise gain T o 0 xs h, portions_rise loss T o 0 xs h)
-
-zero_outside : (σ : Side) → Outside σ 0 0
-zero_outside Low = omega arith
-zero_outside High = omega arith
 
 -- a rounded portion lies on its side of the exact one
 portion_bounds : (σ : Side) (T : Tables) (t a : ℕ) (x : Fraction) → Bounds σ (factor_of T σ t) x → Outside σ (portion (entry T.factors t) a σ * x.bottom) (a * 100 * x.top)

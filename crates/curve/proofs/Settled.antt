@@ -27,7 +27,7 @@ strip_ordered (x ∷ xs) T N o laws e = go (strip_ordered xs) (found_growths (wo
     go : ((A B : Tables) → Ordered A → AllLawful xs → strip_from A xs ≡ Ok B → Ordered B) → (v : Result (ℕ × ℕ) Refusal) → found_growths (worth_at T x) x ≡ v
         → and_then (ok_map (extended T x) v) (λ M. strip_from M xs) ≡ Ok N → Ordered N
     go rest (Ok growths) f d = rest (extended T x growths) N (extended_ordered T o x laws.0 growths (accepted (worth_at T x) x growths f)) laws.1 d
-    go rest (Err r) f d = let z : ◌≡◌ {A = ℕ} 0 1 = cc in absurd (omega arith)
+    go rest (Err r) f d = cc
 
 needs_one : (b : Option Blend) → 1 ≤ needed (blend_span b)
 needs_one None = omega arith
@@ -39,9 +39,9 @@ module _ (b : Option Blend) (xs : List Meaning) (laws : AllLawful xs) where
   settled_ordered T e = go (ltb (last_from 0 xs) (needed (blend_span b))) (stripped xs) refl e
     where
       go : (s : Bool) (v : Result Tables Refusal) → stripped xs ≡ v → cond s (Err (TooShort (last_from 0 xs))) (ok_map (discount (blend_span b)) v) ≡ Ok T → Ordered T
-      go true v f d = let z : ◌≡◌ {A = ℕ} 0 1 = cc in absurd (omega arith)
+      go true v f d = cc
       go false (Ok N) f d = let same : discount (blend_span b) N ≡ T = cc in subst Ordered same (discount_ordered b N (strip_ordered xs unstripped N start_ordered laws f))
-      go false (Err r) f d = let z : ◌≡◌ {A = ℕ} 0 1 = cc in absurd (omega arith)
+      go false (Err r) f d = cc
 
   pub settled_tells : (c : ExactCurve) → Admitted xs c → Tells (exact_discount (blend_span b) (exact_growth c)) (settled (blend_span b) xs)
   unfolding settled

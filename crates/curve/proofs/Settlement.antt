@@ -29,7 +29,7 @@ strip_last (x ∷ xs) T N e = go (strip_last xs) (found_growths (worth_at T x) x
   where
     go : ((A B : Tables) → strip_from A xs ≡ Ok B → B.last ≡ last_from A.last xs) → (v : Result (ℕ × ℕ) Refusal) → and_then (ok_map (extended T x) v) (λ M. strip_from M xs) ≡ Ok N → N.last ≡ last_from x.maturity xs
     go rest (Ok growths) f = rest (extended T x growths) N f
-    go rest (Err r) f = let z : ◌≡◌ {A = ℕ} 0 1 = cc in absurd (omega arith)
+    go rest (Err r) f = cc
 
 pub settled_short : (span : Option (ℕ × ℕ)) (xs : List Meaning) → last_from 0 xs < needed span → Err (TooShort (last_from 0 xs)) ≡ settled span xs
 unfolding settled

@@ -8,7 +8,7 @@ use Rattle.curve.specs.Worths.{continued, level, worth, after, worth_from}
 use Rattle.curve.specs.declared.side.Side.{Side}
 use Rattle.curve.specs.declared.side.Side.TheVariants.{Low, High}
 use Rattle.curve.specs.declared.tables.Tables.{Tables}
-use Rattle.curve.proofs.Bounds.{payment_small}
+use Rattle.curve.proofs.Bounds.{factor_small, payment_small}
 use Rattle.curve.proofs.Continuation.{continued_known, continued_turn, worth_turn, worth_past, worth_none, after_yet, after_late, after_none}
 use Rattle.curve.proofs.Shares.{pair_side}
 
@@ -24,7 +24,7 @@ known_none T x High = (refl, omega arith)
 module _ (T : Tables) (o : Ordered T) (x : Meaning) (law : Lawful x) where
   -- the payment of a year within the curve
   pub added_small : (t p : ℕ) → p ≡ x.payment t → t ≤ T.last → (σ : Side) → p * factor_of T σ t ≤ 2000000000000000
-  added_small t p paid within σ = payment_small T o σ t p (omega (arith, o.ends)) (omega (arith, law.payment_limit t))
+  added_small t p paid within σ = payment_small p (factor_of T σ t) (omega (arith, law.payment_limit t)) (factor_small T o σ t (omega (arith, o.ends)))
 
   pub known_more : (t p : ℕ) (known sums : ℕ × ℕ) → 1 ≤ t → t ≤ T.last → p ≡ x.payment t → Known T x t known → sums ≡ pair (λ σ. side_of σ known + p * factor_of T σ t) → Known T x (t + 1) sums
   known_more t p known sums one within paid so are σ =

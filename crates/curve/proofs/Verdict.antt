@@ -77,9 +77,9 @@ accepted w x growths e = go (ltb (w High least) (admitted Low x.price)) refl (le
         → (d : Bool) → ltb (found w x.price Low + 1000) (found w x.price High) ≡ d
         → cond a (Err (ForwardBelowRange x.maturity)) (cond b (Err (ForwardAboveRange x.maturity)) (cond d (Err (ForwardTooWide x.maturity)) (Ok (pair (found w x.price))))) ≡ Ok growths
         → Accepted w x growths
-    go true p b q d r e = let z : ◌≡◌ {A = ℕ} 0 1 = cc in absurd (omega arith)
-    go false p true q d r e = let z : ◌≡◌ {A = ℕ} 0 1 = cc in absurd (omega arith)
-    go false p false q true r e = let z : ◌≡◌ {A = ℕ} 0 1 = cc in absurd (omega arith)
+    go true p b q d r e = cc
+    go false p true q d r e = cc
+    go false p false q true r e = cc
     go false p false q false r e =
         let same : pair (found w x.price) ≡ growths = cc in
         let low_is : found w x.price Low ≡ growths.0 = ap (λ v. v.0) same in
@@ -113,4 +113,4 @@ refused_why w x r e = go (ltb (w High least) (admitted Low x.price)) refl (leb (
     go false p false q true e =
         let is : ForwardTooWide x.maturity ≡ r = cc in
         ((λ n. absurd (omega (arith, n, ap number_of is))), (λ n. absurd (omega (arith, n, ap number_of is))))
-    go false p false q false e = let z : ◌≡◌ {A = ℕ} 0 1 = cc in absurd (omega arith)
+    go false p false q false e = cc

@@ -1,6 +1,6 @@
-use Rattle.std.proofs.Common.{ℕ, ◌*◌, ◌≤◌, mul-le-mul, arith}
-use Rattle.curve.specs.Range.{unit}
+use Rattle.std.proofs.Common.{arith}
 use Rattle.curve.specs.Steps.{side_of}
+use Rattle.curve.proofs.Bounds.{payment_small}
 use Rattle.curve.proofs.Sums.{gone_none, gone_more, gone_all}
 use Rattle.curve.proofs.gap.GapFalling.at.Goals as goal
 
@@ -14,10 +14,6 @@ loop-year-init g c =
       worth_small = omega (arith, c.of-worth.ensures, x.small σ);
     }
 
--- a payment at a factor
-paid_small : (p factor : ℕ) → p ≤ 2000000 → factor ≤ unit → p * factor ≤ 2000000 * unit
-paid_small p factor small within = mul-le-mul {n₁ = p} {m₁ = factor} {n₂ = 2000000} {m₂ = unit} small within
-
 pub loop-year-preserved : goal.loop-year-preserved
 loop-year-preserved g c =
     let x = c.args.self.now in
@@ -27,7 +23,7 @@ loop-year-preserved g c =
     record {
       gone = gone_more σ (side_of σ x.known) (side_of σ x.start) x.last (g.K.Instrument.means x.instrument).payment c.args.growth c.loop-year.year c.payment.result c.loop-year.factor c.loop-year.worth c.discount-factor.result i.gone c.payment.ensures c.discount-factor.ensures.value;
       factor_small = c.discount-factor.ensures.upper_bound;
-      worth_small = omega (arith, paid_small c.payment.result c.discount-factor.result (omega (arith, law.payment_limit c.loop-year.year, c.payment.ensures)) c.discount-factor.ensures.upper_bound);
+      worth_small = omega (arith, payment_small c.payment.result c.discount-factor.result (omega (arith, law.payment_limit c.loop-year.year, c.payment.ensures)) c.discount-factor.ensures.upper_bound);
     }
 
 pub returns : goal.returns
