@@ -9,6 +9,9 @@ use Rattle.instruments.specs.declared.refusal.Refusal.{Refusal}
 use Rattle.curve.specs.Steps.{side_of, opposite, pair}
 use Rattle.curve.specs.Worths.{continued, level, worth, gap_worth}
 use Rattle.curve.specs.Market.{by_year, entry, factor_of, worth_at, found_growths, discounted_on, stepped, tightened, tightened_by, rest_of, Leaves, extended, extended_growths, extended_factors, with_gap, Ordered}
+use Rattle.curve.specs.Gaps.{worth_of}
+use Rattle.curve.specs.declared.discount.Curve.{Curve}
+use Rattle.curve.specs.declared.gap.Gap.{Gap}
 use Rattle.curve.specs.declared.side.Side.{Side}
 use Rattle.curve.specs.declared.side.Side.TheVariants.{Low, High}
 use Rattle.curve.specs.declared.tables.Tables.{Tables}
@@ -21,14 +24,23 @@ pub table_is : (f : ℕ → ℕ × ℕ) (table : List (ℕ × ℕ)) → length t
 unfolding by_year
 table_is f table long same = fill_by_all f table 121 (0, 0) long same
 
--- the worth of a gap as it is opened is the worth at the curve
-pub opened : (T : Tables) → Ordered T → (x : Meaning) → Lawful x → (known start : ℕ × ℕ) (last : ℕ) (y : Meaning) → y ≡ x → last ≡ T.last → start ≡ entry T.factors T.last
-    → known ≡ pair (λ σ. worth x.payment (factor_of T σ) T.last) → gap_worth known start last y ≡ worth_at T x
-opened T o x law known start last y same year begun summed = (λ i. gap_worth known start (year i) (same i)) ∙ gap_worth_is T o x law known start summed begun
+-- the worths w of a gap, whose instrument means y, are those of x at the curve
+pub record Opened (T : Tables) (x : Meaning) (w : Side → ℕ → ℕ) (y : Meaning) : Type 0 where
+  worths : w ≡ worth_at T x
+  pub same : y ≡ x
 
-module _ (T : Tables) (x : Meaning) (w : Side → ℕ → ℕ) (y : Meaning) (opened : w ≡ worth_at T x) (same : y ≡ x) where
+-- those of a new gap are
+pub opened : {K : Type 0} (means : K → Meaning) (curve : Curve) (i : K) → Lawful (means i) → (gap : Gap K)
+    → record { same : gap.instrument ≡ i; year : gap.last ≡ curve.tables.last; begun : gap.start ≡ entry curve.tables.factors curve.tables.last; summed : gap.known ≡ pair (λ σ. worth (means i).payment (factor_of curve.tables σ) curve.tables.last) }
+    → Opened curve.tables (means i) (worth_of means gap) (means gap.instrument)
+opened means curve i law gap n = record {
+  worths = (λ j. gap_worth gap.known gap.start (n.year j) (means (n.same j))) ∙ gap_worth_is curve.tables curve.ordered (means i) law gap.known gap.start n.summed n.begun;
+  same = ap means n.same;
+}
+
+module _ {T : Tables} {x : Meaning} {w : Side → ℕ → ℕ} {y : Meaning} (gap_is : Opened T x w y) where
   verdict : found_growths w y ≡ found_growths (worth_at T x) x
-  verdict = λ i. found_growths (opened i) (same i)
+  verdict = λ i. found_growths (gap_is.worths i) (gap_is.same i)
 
   pub refused_alike : (r : Refusal) → Err r ≡ found_growths w y → Err r ≡ with_gap T x
   unfolding with_gap
@@ -55,10 +67,10 @@ module _ (T : Tables) (x : Meaning) (w : Side → ℕ → ℕ) (y : Meaning) (op
     tight_there = λ i. (tightened_by x Low (stepped T growths Low x.maturity) (rest_is High i), tightened_by x High (stepped T growths High x.maturity) (rest_is Low i))
 
     pub leaves_alike : (σ : Side) → Leaves w y growths steps σ
-    leaves_alike σ = subst (λ (p : (Side → ℕ → ℕ) × Meaning × (ℕ × ℕ)). Leaves p.0 p.1 growths p.2 σ) (sym (λ i. (opened i, same i, steps_are i))) (leaves_there σ)
+    leaves_alike σ = subst (λ (p : (Side → ℕ → ℕ) × Meaning × (ℕ × ℕ)). Leaves p.0 p.1 growths p.2 σ) (sym (λ i. (gap_is.worths i, gap_is.same i, steps_are i))) (leaves_there σ)
 
     pub tightened_alike : pair (λ σ. tightened_by y σ (side_of σ steps) (rest_of w y growths steps (opposite σ))) ≡ pair (tightened T x growths)
-    tightened_alike = (λ i. pair (λ σ. tightened_by (same i) σ (side_of σ (steps_are i)) (rest_of (opened i) (same i) growths (steps_are i) (opposite σ)))) ∙ tight_there
+    tightened_alike = (λ i. pair (λ σ. tightened_by (gap_is.same i) σ (side_of σ (steps_are i)) (rest_of (gap_is.worths i) (gap_is.same i) growths (steps_are i) (opposite σ)))) ∙ tight_there
 
 -- the code's tables, entry by entry
 -- the growths from the year after the last on, written over
