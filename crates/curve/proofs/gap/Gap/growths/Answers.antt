@@ -4,7 +4,7 @@ use Rattle.instruments.specs.declared.refusal.Refusal.TheVariants.{ForwardBelowR
 use Rattle.curve.specs.Range.{least, most}
 use Rattle.curve.specs.Steps.{pair, reaching}
 use Rattle.curve.specs.Market.{admitted, limit, found, found_growths}
-use Rattle.curve.specs.Worths.{gap_worth}
+use Rattle.curve.specs.Gaps.{worth_of}
 use Rattle.curve.specs.declared.side.Side.{Side}
 use Rattle.curve.specs.declared.side.Side.TheVariants.{Low, High}
 use Rattle.curve.proofs.Edges.{edge_range}
@@ -12,7 +12,7 @@ use Rattle.curve.proofs.Verdict.{below_range, not_below, above_range, not_above,
 use Rattle.curve.proofs.gap.Gap.growths.Goals as goal
 
 -- each answer, from the two growths that are found
-module _ (w : Side → ℕ → ℕ) (x : Meaning) (m : ℕ) (m_is : m ≡ x.maturity) (growths : ℕ × ℕ) (are : growths ≡ pair (found w x.price)) where
+module _ (w : Side → ℕ → ℕ) (x : Meaning) {m : ℕ} {growths : ℕ × ℕ} (m_is : m ≡ x.maturity) (are : growths ≡ pair (found w x.price)) where
   low_is : growths.0 ≡ found w x.price Low
   low_is = ap (λ p. p.0) are
 
@@ -43,31 +43,16 @@ module _ (w : Side → ℕ → ℕ) (x : Meaning) (m : ℕ) (m_is : m ≡ x.matu
       taken h = accepted_pair w x enough not_more growths.0 growths.1 low_is high_is h
 
 pub returns-then-high-eq-LEAST : goal.returns-then-high-eq-LEAST
-returns-then-high-eq-LEAST g c =
-    let x = c.args.self.now in
-    let means = g.K.Instrument.means x.instrument in
-    below (gap_worth x.known x.start x.last means) means c.maturity-maturity.result c.maturity-maturity.ensures c.furthest_growths-low.result c.furthest_growths-low.ensures c.if-high-eq-LEAST.true
+returns-then-high-eq-LEAST g c = below _ _ c.maturity-maturity.ensures c.furthest_growths-low.ensures c.if-high-eq-LEAST.true
 
 pub returns-then-low-eq-MOST : goal.returns-then-low-eq-MOST
-returns-then-low-eq-MOST g c =
-    let x = c.args.self.now in
-    let means = g.K.Instrument.means x.instrument in
-    above (gap_worth x.known x.start x.last means) means c.maturity-maturity.result c.maturity-maturity.ensures c.furthest_growths-low.result c.furthest_growths-low.ensures c.if-high-eq-LEAST.false c.if-low-eq-MOST.true
+returns-then-low-eq-MOST g c = above _ _ c.maturity-maturity.ensures c.furthest_growths-low.ensures c.if-high-eq-LEAST.false c.if-low-eq-MOST.true
 
 pub overflow_add-low : goal.overflow_add-low
-overflow_add-low g c =
-    let x = c.args.self.now in
-    let means = g.K.Instrument.means x.instrument in
-    record { fits = omega (arith, small (gap_worth x.known x.start x.last means) means c.maturity-maturity.result c.maturity-maturity.ensures c.furthest_growths-low.result c.furthest_growths-low.ensures) }
+overflow_add-low g c = record { fits = omega (arith, small (worth_of g.K.Instrument.means c.args.self.now) (g.K.Instrument.means c.args.self.now.instrument) c.maturity-maturity.ensures c.furthest_growths-low.ensures) }
 
 pub returns-then-high-low : goal.returns-then-high-low
-returns-then-high-low g c =
-    let x = c.args.self.now in
-    let means = g.K.Instrument.means x.instrument in
-    wide (gap_worth x.known x.start x.last means) means c.maturity-maturity.result c.maturity-maturity.ensures c.furthest_growths-low.result c.furthest_growths-low.ensures c.if-high-eq-LEAST.false c.if-low-eq-MOST.false c.if-high-low.true
+returns-then-high-low g c = wide _ _ c.maturity-maturity.ensures c.furthest_growths-low.ensures c.if-high-eq-LEAST.false c.if-low-eq-MOST.false c.if-high-low.true
 
 pub returns : goal.returns
-returns g c =
-    let x = c.args.self.now in
-    let means = g.K.Instrument.means x.instrument in
-    taken (gap_worth x.known x.start x.last means) means c.maturity-maturity.result c.maturity-maturity.ensures c.furthest_growths-low.result c.furthest_growths-low.ensures c.if-high-eq-LEAST.false c.if-low-eq-MOST.false c.if-high-low.false
+returns g c = taken _ _ c.maturity-maturity.ensures c.furthest_growths-low.ensures c.if-high-eq-LEAST.false c.if-low-eq-MOST.false c.if-high-low.false
