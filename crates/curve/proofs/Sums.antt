@@ -21,7 +21,7 @@ unfolding worth
 known_none T x Low = (refl, omega arith)
 known_none T x High = (refl, omega arith)
 
-module _ (T : Tables) (o : Ordered T) (x : Meaning) (law : Lawful x) where
+module _ {T : Tables} (o : Ordered T) {x : Meaning} (law : Lawful x) where
   -- the payment of a year within the curve
   pub added_small : (t p : ℕ) → p ≡ x.payment t → t ≤ T.last → (σ : Side) → p * factor_of T σ t ≤ 2000000000000000
   added_small t p paid within σ = payment_small p (factor_of T σ t) (omega (arith, law.payment_limit t)) (factor_small T o σ t (omega (arith, o.ends)))

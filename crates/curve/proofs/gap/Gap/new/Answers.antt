@@ -13,44 +13,34 @@ loop-year-init g c = record { within = omega arith; known = known_none c.args.cu
 
 pub both-known-requires : goal.both-known-requires
 both-known-requires g c =
-    let t = c.loop-year.year in
-    let product : (σ : Side) → c.payment-payment.result * factor_of c.args.curve.now.tables σ t ≤ 2000000000000000 =
-    added_small c.args.curve.now.tables c.args.curve.now.ordered (g.K.Instrument.means c.args.instrument) (g.met.K.Instrument.lawful c.args.instrument) t c.payment-payment.result c.payment-payment.ensures (omega arith) in
+    let product : (σ : Side) → c.payment-payment.result * factor_of c.args.curve.now.tables σ c.loop-year.year ≤ 2000000000000000 =
+    added_small c.args.curve.now.ordered (g.met.K.Instrument.lawful c.args.instrument) _ _ c.payment-payment.ensures (omega arith) in
     let so_far : (σ : Side) → side_of σ c.loop-year.known ≤ 240000000000000000 = λ σ. omega (arith, (c.loop-year.invariant.known σ).1) in
     grind (serving, product, so_far)
 
 pub loop-year-preserved : goal.loop-year-preserved
 loop-year-preserved g c = record {
   within = omega (arith, c.maturity.ensures);
-  known = known_more c.args.curve.now.tables c.args.curve.now.ordered (g.K.Instrument.means c.args.instrument) (g.met.K.Instrument.lawful c.args.instrument) c.loop-year.year c.payment-payment.result c.loop-year.known c.both-known.result
-      c.loop-year.auto.year (omega arith) c.payment-payment.ensures c.loop-year.invariant.known (search rules);
+  known = known_more c.args.curve.now.ordered (g.met.K.Instrument.lawful c.args.instrument) _ _ c.loop-year.known _ c.loop-year.auto.year (omega arith) c.payment-payment.ensures c.loop-year.invariant.known (search rules);
 }
 
 pub invariant_of-result : goal.invariant_of-result
 invariant_of-result g c =
-    let T = c.args.curve.now.tables in
-    let x = g.K.Instrument.means c.args.instrument in
+    let o = c.args.curve.now.ordered in
     let law = g.met.K.Instrument.lawful c.args.instrument in
-    let t = c.loop-year.year in
     let so = c.loop-year.invariant.known in
     let small : (σ : Side) → side_of σ c.loop-year-test.known ≤ 240000000000000000 = elim c.loop-year-test.branch [
-      | else-loop-year-test w ↦ rw w.known-is (known_small T c.args.curve.now.ordered x law t c.loop-year.known (omega (arith, c.maturity.ensures, law.one_year)) so)
-      | then-loop-year-test+else-year-year-end w ↦
-          let p = w.payment-payment in
-          rw w.known-is (known_small T c.args.curve.now.ordered x law (t + 1) w.both-known.result (omega (arith, c.maturity.ensures, law.one_year)) (known_more T c.args.curve.now.ordered x law t p.result c.loop-year.known w.both-known.result c.loop-year.auto.year (omega arith) p.ensures so (search rules)))
+      | else-loop-year-test w ↦ rw w.known-is (known_small o law c.loop-year.year _ (omega (arith, c.maturity.ensures, law.one_year)) so)
+      | then-loop-year-test+else-year-year-end w ↦ rw w.known-is (known_small o law (c.loop-year.year + 1) _ (omega (arith, c.maturity.ensures, law.one_year)) (known_more o law _ _ c.loop-year.known w.both-known.result c.loop-year.auto.year (omega arith) w.payment-payment.ensures so (search rules)))
     ] in
-    record { year = c.args.curve.now.ordered.ends; started = λ σ. factor_small T c.args.curve.now.ordered σ T.last c.args.curve.now.ordered.ends; small = small }
+    record { year = o.ends; started = λ σ. factor_small c.args.curve.now.tables o σ c.args.curve.now.tables.last o.ends; small = small }
 
 pub returns-clause-summed : goal.returns-clause-summed
 returns-clause-summed g c =
-    let T = c.args.curve.now.tables in
-    let x = g.K.Instrument.means c.args.instrument in
+    let o = c.args.curve.now.ordered in
     let law = g.met.K.Instrument.lawful c.args.instrument in
-    let t = c.loop-year.year in
     let so = c.loop-year.invariant.known in
     elim c.loop-year-test.branch [
-      | else-loop-year-test w ↦ w.known-is ∙ known_all T c.args.curve.now.ordered x law t c.loop-year.known (omega (arith, c.maturity.ensures, law.one_year)) so
-      | then-loop-year-test+else-year-year-end w ↦
-          let p = w.payment-payment in
-          w.known-is ∙ known_all T c.args.curve.now.ordered x law (t + 1) w.both-known.result (omega (arith, c.maturity.ensures, law.one_year)) (known_more T c.args.curve.now.ordered x law t p.result c.loop-year.known w.both-known.result c.loop-year.auto.year (omega arith) p.ensures so (search rules))
+      | else-loop-year-test w ↦ w.known-is ∙ known_all o law c.loop-year.year _ (omega (arith, c.maturity.ensures, law.one_year)) so
+      | then-loop-year-test+else-year-year-end w ↦ w.known-is ∙ known_all o law (c.loop-year.year + 1) _ (omega (arith, c.maturity.ensures, law.one_year)) (known_more o law _ _ c.loop-year.known w.both-known.result c.loop-year.auto.year (omega arith) w.payment-payment.ensures so (search rules))
     ]
