@@ -98,15 +98,16 @@ a then b = (a, b)
 pub all_marked : AllHold marked
 unfolding blended_growth quotient worth_at unstripped worth continued step extended by_year stepped tightened portion reserve_from flows_within
 all_marked =
+    let swap_at_20_000 = asks (one_swap 23500) 1019999999 1020000002 refl {A = ℤ × ℤ} in
     refl then refl then refl then refl
     then refl then refl then refl
     then refl then refl
     then asks (one_swap 3500) 1000000000 1000000003 refl _ _ refl
     then asks (one_swap 3500) 1000000000 1000000003 refl _ _ refl
-    then asks (one_swap 23500) 1019999999 1020000002 refl _ _ refl
-    then asks (one_swap 23500) 1019999999 1020000002 refl _ _ refl
-    then asks (one_swap 23500) 1019999999 1020000002 refl _ _ refl
-    then asks (one_swap 23500) 1019999999 1020000002 refl _ _ refl
+    then swap_at_20_000 _ _ refl
+    then swap_at_20_000 _ _ refl
+    then swap_at_20_000 _ _ refl
+    then swap_at_20_000 _ _ refl
     then asks (one_bond 800000000) 1249999997 1250000001 refl _ _ refl
     then asks_rate (one_bond 800000000) 1249999997 1250000001 refl 1 1249999999 1250000000 _ refl refl refl
     then strips_so (one_bond 799999999) 1249999999 1250000001 refl

@@ -11,23 +11,16 @@ use Rattle.curve.proofs.Settlement.{settled_short, settled_long, settled_enclose
 use Rattle.curve.proofs.settle.settle.Goals as goal
 
 pub returns-then-last-needed : goal.returns-then-last-needed
-returns-then-last-needed g c =
-    let terms = span c.args.terms.now in
-    let xs = map g.K.Instrument.read c.args.rows.now in
-    let short : last_from 0 xs < needed terms = omega (arith, c.if-last-needed.true, c.last_maturity-last.ensures, c.needed.ensures.value) in
-    record {
-      curve = ap (λ t. Err (TooShort t)) c.last_maturity-last.ensures ∙ settled_short terms xs short;
-      encloses = λ d a. ((λ e. omega (arith, e)), (λ e. omega (arith, e)));
-    }
+returns-then-last-needed g c = record {
+  curve = ap (λ t. Err (TooShort t)) c.last_maturity-last.ensures ∙ settled_short _ _ (omega (arith, c.if-last-needed.true, c.last_maturity-last.ensures, c.needed.ensures.value));
+  encloses = λ d a. ((λ e. omega (arith, e)), (λ e. omega (arith, e)));
+}
 
 pub returns-in_err-market : goal.returns-in_err-market
 returns-in_err-market g c =
     let p = err_from_is_err_and c.from_residual.result c.from_residual.ensures.1 in
-    let terms = span c.args.terms.now in
-    let xs = map g.K.Instrument.read c.args.rows.now in
-    let long : needed terms ≤ last_from 0 xs = omega (arith, c.if-last-needed.false, c.last_maturity-last.ensures, c.needed.ensures.value) in
     rw (p.1, p.2) (record {
-      curve = ap (ok_map (discount terms)) c.in_err-market.ensures.curve ∙ settled_long terms xs long;
+      curve = ap (ok_map (discount (span c.args.terms.now))) c.in_err-market.ensures.curve ∙ settled_long _ _ (omega (arith, c.if-last-needed.false, c.last_maturity-last.ensures, c.needed.ensures.value));
       encloses = λ d a. c.in_err-market.ensures.encloses d a;
     })
 
