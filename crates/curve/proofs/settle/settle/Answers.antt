@@ -27,13 +27,11 @@ returns-in_err-market g c =
 pub returns : goal.returns
 returns g c =
     let terms = span c.args.terms.now in
-    let xs = map g.K.Instrument.read c.args.rows.now in
-    let long : needed terms ≤ last_from 0 xs = omega (arith, c.if-last-needed.false, c.last_maturity-last.ensures, c.needed.ensures.value) in
-    let market = c.in_ok-market.market in
     let made = c.blended.result in
-    let is : made.tables ≡ discount terms market.tables = c.blended.ensures in
+    let is : made.tables ≡ discount terms c.in_ok-market.market.tables = c.blended.ensures in
     record {
-      curve = ap Ok is ∙ ap (ok_map (discount terms)) c.in_ok-market.ensures.curve ∙ settled_long terms xs long;
+      curve = ap Ok is ∙ ap (ok_map (discount terms)) c.in_ok-market.ensures.curve ∙ settled_long _ _ (omega (arith, c.if-last-needed.false, c.last_maturity-last.ensures, c.needed.ensures.value));
       encloses = λ d a. subst (λ T. Encloses T (exact_discount terms (exact_growth d))) (sym is)
-          (settled_encloses terms xs market.tables c.in_ok-market.ensures.curve (omega (arith, long, c.needed.ensures.value, c.needed.ensures.positive)) (subst Ordered is made.ordered) d a (c.in_ok-market.ensures.encloses d a));
+          (settled_encloses terms _ _ c.in_ok-market.ensures.curve (omega (arith, c.if-last-needed.false, c.last_maturity-last.ensures, c.needed.ensures.value, c.needed.ensures.positive))
+          (subst Ordered is made.ordered) d a (c.in_ok-market.ensures.encloses d a));
     }
