@@ -8,7 +8,7 @@ use Rattle.curve.specs.Blending.{blended_growth}
 use Rattle.curve.specs.Figures.{AllHold, marked, RefusedAs, one_swap, one_bond}
 use Rattle.curve.specs.Market.{admitted, limit, worth_at, found_growths, stepped, tightened, by_year, extended, with_gap, and_then, strip_from, stripped, unstripped}
 use Rattle.curve.specs.Questions.{asked, forward_of}
-use Rattle.curve.specs.Range.{unit, least, most, edge}
+use Rattle.curve.specs.Range.{least, most, edge}
 use Rattle.curve.specs.Rates.{compounded, rate_limit, asked_rate}
 use Rattle.curve.specs.Reserve.{portion, reserve_from, flows_within}
 use Rattle.curve.specs.Steps.{quotient, step, reaching, Falls}

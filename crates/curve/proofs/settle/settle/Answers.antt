@@ -1,4 +1,4 @@
-use Rattle.std.proofs.Common.{◌≡◌, ◌<◌, ◌≤◌, map, Ok, Err, sym, ap, ◌∙◌, subst, arith}
+use Rattle.std.proofs.Common.{◌≡◌, Ok, Err, sym, ap, ◌∙◌, subst, arith}
 use Rattle.std.proofs.lemmas.Result.{err_from_is_err_and}
 use Rattle.instruments.specs.Law.{ok_map}
 use Rattle.instruments.specs.declared.refusal.Refusal.TheVariants.{TooShort}
@@ -6,7 +6,6 @@ use Rattle.curve.specs.Blending.{discount}
 use Rattle.curve.specs.Currencies.{span}
 use Rattle.curve.specs.Exact.{exact_growth, exact_discount, Encloses}
 use Rattle.curve.specs.Market.{Ordered}
-use Rattle.curve.specs.Settling.{last_from, needed}
 use Rattle.curve.proofs.Settlement.{settled_short, settled_long, settled_encloses}
 use Rattle.curve.proofs.settle.settle.Goals as goal
 
