@@ -2,13 +2,14 @@
 ghost use Rattle.std.specs.Prelude.{◌≤◌, pos, negsuc, ◌≤ℤ◌};
 ghost use Rattle.book.specs.declared.flow.TheConstants.{LAST_YEAR};
 
+use curve::tables::HORIZON;
 use instruments::refusal::Refusal;
 
 // the largest amount, either way
 const LARGEST: i32 = 1_000_000_000;
 
 // the last year that may hold a flow
-pub(crate) const LAST_YEAR: u8 = 120;
+const LAST_YEAR: u8 = HORIZON;
 
 #[derive(Clone, Copy)]
 pub struct Flow {

@@ -14,7 +14,7 @@ use curve::terms::Terms;
 use instruments::kind::Instrument;
 use instruments::refusal::Refusal;
 
-// at most so many places are used
+// at most so many places are used; the clauses write the number, as the definitions do
 pub const MOST_PLACES: usize = 60;
 
 // The quotations stand as rows in the first `len` places, in rising order of maturity: the caller lends the places, so that a book needs no

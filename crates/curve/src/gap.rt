@@ -14,7 +14,7 @@ use instruments::kind::Instrument;
 use instruments::refusal::Refusal;
 
 // the products of a ppm and a unit in one unit of worth
-const TOLERANCE: u64 = 1_000_000;
+const WORTH: u64 = 1_000_000;
 
 // how far apart the two growths of a gap may be
 const WIDEST: u64 = 1_000;
@@ -120,10 +120,10 @@ impl<K: Instrument> Gap<K> {
     fn admitted(&self, side: Side) -> u64
         ensures { result ≡ admitted side (K.means self.now.instrument).price }
     {
-        let price = self.instrument.price() * 1_000_000;
+        let price = self.instrument.price() * WORTH;
         match side {
-            Side::Low => price - TOLERANCE,
-            Side::High => price + TOLERANCE,
+            Side::Low => price - WORTH,
+            Side::High => price + WORTH,
         }
     }
 

@@ -40,7 +40,8 @@ fn near<F: Falling>(f: &F, side: Side, limit: u64, guess: u64) -> u64 {
     growth
 }
 
-// The first growth of the range at which the figure is below the limit, or one past the range. Any guess will do; a near one is quick.
+// The first growth of the range at which the figure is below the limit, or one past the range, as `partition_point` answers. Any
+// guess will do; a near one is quick.
 fn first_below<F: Falling>(f: &F, side: Side, limit: u64, guess: u64) -> u64
     requires { Falls (F.value f.now side) }
     ensures lower_bound { least ≤ result }

@@ -12,7 +12,7 @@ use crate::terms::Terms;
 use instruments::kind::Instrument;
 use instruments::refusal::Refusal;
 
-// The maturity of the last quotation, or 0 if there is none.
+// The maturity of the last quotation, or 0 if there is none: a refusal reports that year then, so it is no `Option`.
 fn last_maturity<K: Instrument>(rows: &[K::Row]) -> u8
     ensures { result ≡ last_from 0 (map K.Instrument.read rows.now) }
 {

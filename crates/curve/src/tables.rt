@@ -7,8 +7,8 @@ ghost use Rattle.curve.specs.declared.side.Side.{Side};
 
 use crate::side::Side;
 
-// The last year that a curve has figures for.
-pub(crate) const HORIZON: u8 = 120;
+// The last year that a curve has figures for, and a book flows. The clauses write the number, as the definitions do.
+pub const HORIZON: u8 = 120;
 
 // How many years it has figures for, year 0 included.
 pub const YEARS: usize = HORIZON as usize + 1;
@@ -47,8 +47,8 @@ impl Tables {
         ensures later { (t : ℕ) → to < t → entry self.new.factors t ≡ entry self.old.factors t }
     {
         let mut factors = self.factors[from as usize];
-        // by the year, since after a loop over `iter_mut().zip(..)` nothing is known of what it wrote; `..=` compares once more
-        // a year
+        // by the year, since after a loop over `iter_mut().zip(..)` nothing is known of what it wrote; with `..=` the instructions for
+        // stripping curves were a thirtieth more
         for year in from as usize + 1..to as usize + 1 {
             factors = discounted(factors, self.growths[year]);
             self.factors[year] = factors;

@@ -9,7 +9,8 @@ use crate::class::Class;
 use crate::refusal::Refusal;
 
 pub trait Instrument: Copy {
-    // A plain record of numbers, bound by no rule.
+    // A plain record of numbers, bound by no rule. A kind does not hold its row: what is bound of its fields would then be said of `row.coupon`
+    // and its like, and each use would reach through it.
     type Row: Copy;
 
     // The letter by which an opening frame names the kind.

@@ -5,9 +5,6 @@ pub const CURRENCY: [u8; 3] = *b"SEK";
 
 pub const CLASS: Class = Class::OccupationalPension;
 
-// The places that the book is lent, one for each quotation that it may hold.
-pub const PLACES: usize = 60;
-
 // Swap quotations: the maturity in years and the quotation in ppm.
 pub const QUOTATIONS: [(u8, i32); 13] = [
     (1, 11_700),

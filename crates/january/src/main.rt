@@ -11,10 +11,10 @@ mod quotations;
 mod report;
 mod stop;
 
-use crate::input::{CURRENCY, PLACES};
+use crate::input::CURRENCY;
 use crate::report::Report;
 use crate::stop::Stop;
-use book::volume::Book;
+use book::volume::{Book, MOST_PLACES};
 use curve::settle::settle;
 use curve::strip::strip;
 use curve::terms::Terms;
@@ -44,9 +44,9 @@ fn ask<R: Print>(report: &Report<'_, '_, R>, terms: &Terms, rows: &[SwapRow]) ->
 fn work_out(rt: &impl Print, heap: Global) -> Result<(), Stop> {
     title(rt)?;
     let terms = Terms::of_code(CURRENCY)?;
-    let mut places = [SwapRow::default(); PLACES];
+    let mut places = [SwapRow::default(); MOST_PLACES];
     let mut book = Book::<Swap>::open(terms, &mut places);
-    println!(rt; "\nOpened: a book with {PLACES} places")?;
+    println!(rt; "\nOpened: a book with {MOST_PLACES} places")?;
     let rows = quotations::enter(rt, heap, &mut book)?;
     flows::post(rt, &mut book)?;
     book.settle()?;
