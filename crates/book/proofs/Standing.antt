@@ -195,7 +195,7 @@ module _ (b : Option Blend) where
     none_admitted refusal e c a = go (settled R.span R.quotations) (tells c a) e
       where
         go : (w : Result Tables Refusal) → Tells (exact_discount R.span (exact_growth c)) w → answered (ok_map (λ _. (marked_settled R, None)) w) ≡ Err refusal → ((reported refusal).number ≡ 19 → ⊥) × ((reported refusal).number ≡ 20 → ⊥)
-        go (Ok T) t f = let z : ◌≡◌ {A = ℕ} 0 1 = cc in absurd (omega arith)
+        go (Ok T) t f = cc
         go (Err r) t f = let same : r ≡ refusal = cc in subst (λ (q : Refusal). ((reported q).number ≡ 19 → ⊥) × ((reported q).number ≡ 20 → ⊥)) same t
 
     stands : Stands R
@@ -203,7 +203,7 @@ module _ (b : Option Blend) where
 
   valid_after : (R : Register) (calls rest all : List (Call Meaning)) → all ≡ calls ++ rest → AllLawfulCalls all → Valid R → Valid (after R calls)
   valid_after R [] rest all e laws v = v
-  valid_after R (call ∷ calls) rest [] e laws v = let z : ◌≡◌ {A = ℕ} 0 1 = cc in absurd (omega arith)
+  valid_after R (call ∷ calls) rest [] e laws v = cc
   valid_after R (call ∷ calls) rest (first ∷ others) e laws v =
       let same : first ≡ call = cc in
       let tail : others ≡ calls ++ rest = cc in
