@@ -19,10 +19,6 @@ pub lines_of : (input : List ℕ) → eqb (length input) 0 ≡ false → lines i
 lines_of [] h = cc
 lines_of (b ∷ bs) h = lines_step b bs
 
-pub no_lines : (input : List ℕ) → length input ≡ 0 → lines input ≡ []
-no_lines [] e = refl
-no_lines (b ∷ bs) e = absurd (omega arith)
-
 -- a line that is cut at its place
 pub cut : (input line : List ℕ) (n k : ℕ) → eqb (length input) 0 ≡ false → line ≡ take n input → (line_length input ≡ n) × (next_line input ≡ k)
     → (Some (line, k) ≡ front_line input) × (lines input ≡ line ∷ lines (drop k input))

@@ -2,6 +2,7 @@
 use Rattle.std.proofs.Common.{◌≡◌, ℕ, Bool, true, false, cond, List, [], ◌∷◌, drop, Ok, Err, Result, Some, sym, subst}
 use Rattle.instruments.specs.Law.{Meaning, Lawful, ok_map}
 use Rattle.instruments.specs.declared.class.Class.{Class}
+use Rattle.instruments.specs.declared.kind.Instrument.{Ghosts}
 use Rattle.instruments.specs.declared.refusal.Refusal.{Refusal}
 use Rattle.instruments.specs.declared.refusal.Refusal.TheVariants.{OutOfTurn}
 use Rattle.curve.specs.Currencies.{span}
@@ -14,7 +15,7 @@ use Rattle.book.proofs.Standing.{LawfulCall, AllLawfulCalls, promised}
 use Rattle.frames.specs.Frames.{frame_read}
 use Rattle.frames.specs.Inputs.{opening_means, line_opens}
 use Rattle.frames.specs.Promises.{with_call, with_read, open_calls, after_opening, ClosedPromise, PromiseLeft}
-use Rattle.frames.specs.Reads.{kind_of}
+use Rattle.frames.specs.Reads.{kind_by}
 use Rattle.frames.specs.Sessions.{Kind, line_read, call_of, opens, frame_call}
 use Rattle.frames.specs.declared.answer.Answer.{Answer}
 use Rattle.frames.specs.declared.frame.Frame.{Frame}
@@ -67,19 +68,18 @@ module _ (k : Kind) (made : (body : List ℕ) → LawfulMade (k.quoted body)) wh
   lines_lawful (line ∷ rest) = read_lawful (line_read line) (open_calls k rest) (lines_lawful rest)
 
 -- the calls of lines at a kind of instrument with the law
-pub lines_promised : {Row : Type 0} (framed : ℕ) (read : Row → Meaning) (making : Class → List ℕ → Result Row Refusal) (class : Class) → ((r : Row) → Lawful (read r)) → (terms : Terms) (ls : List (List ℕ))
-    → Promise (span terms) 60 (open_calls (kind_of framed read making class) ls)
-lines_promised {Row} framed read making class law terms ls = promised terms.blend 60 (open_calls k ls) (lines_lawful k made ls)
+pub lines_promised : {K Row : Type 0} (g : Ghosts K Row) (class : Class) → ((r : Row) → Lawful (g.read r)) → (terms : Terms) (ls : List (List ℕ)) → Promise (span terms) 60 (open_calls (kind_by g class) ls)
+lines_promised {K} {Row} g class law terms ls = promised terms.blend 60 (open_calls k ls) (lines_lawful k made ls)
   where
     k : Kind
-    k = kind_of framed read making class
+    k = kind_by g class
 
-    go : (w : Result Row Refusal) → LawfulMade (ok_map read w)
+    go : (w : Result Row Refusal) → LawfulMade (ok_map g.read w)
     go (Ok r) = law r
     go (Err refusal) = tt
 
     made : (body : List ℕ) → LawfulMade (k.quoted body)
-    made body = go (making class body)
+    made body = go (g.making class body)
 
 -- a line that opens a book
 pub opened_promise : (o : Opening) (line : List ℕ) (rest ls : List (List ℕ)) → Ok (opening_means o) ≡ line_opens line → ls ≡ line ∷ rest → PromiseLeft (Some o) rest → ClosedPromise ls

@@ -45,31 +45,30 @@ impl Frame {
         }
     }
 
-    // Reads a frame's bytes as what its letter asks.
+    // Reads a frame's bytes as what its letter asks. The patterns say the lengths once more, and the check holds both to one clause.
     pub fn read(letter: Letter, bytes: &[u8], quote_length: usize) -> Result<Frame, Refusal>
         ensures { result ≡ frame_read letter bytes.now quote_length }
     {
-        if bytes.len() != Frame::length(letter, quote_length) {
-            return Err(Refusal::WrongLength);
-        }
-        match letter {
-            Letter::Open => Ok(Frame::Open {
-                kind: bytes[1],
-                class: bytes[2],
-                code: [bytes[3], bytes[4], bytes[5]],
+        match (letter, bytes) {
+            (Letter::Open, &[_, kind, class, a, b, c]) => Ok(Frame::Open {
+                kind,
+                class,
+                code: [a, b, c],
             }),
-            Letter::Quote => Ok(Frame::Quote),
-            Letter::Withdraw => Ok(Frame::Withdraw(bytes[1])),
-            Letter::Post => {
-                let amount = [bytes[2], bytes[3], bytes[4], bytes[5]];
-                Ok(Frame::Post(bytes[1], i32::from_be_bytes(amount)))
+            (Letter::Quote, _) if bytes.len() == Frame::length(letter, quote_length) => {
+                Ok(Frame::Quote)
             }
-            Letter::Strike => Ok(Frame::Strike(bytes[1])),
-            Letter::Settle => Ok(Frame::Settle),
-            Letter::Forward => Ok(Frame::Forward(bytes[1])),
-            Letter::Factor => Ok(Frame::Factor(bytes[1])),
-            Letter::Rate => Ok(Frame::Rate(bytes[1])),
-            Letter::Reserve => Ok(Frame::Reserve),
+            (Letter::Withdraw, &[_, year]) => Ok(Frame::Withdraw(year)),
+            (Letter::Post, &[_, year, a, b, c, d]) => {
+                Ok(Frame::Post(year, i32::from_be_bytes([a, b, c, d])))
+            }
+            (Letter::Strike, &[_, year]) => Ok(Frame::Strike(year)),
+            (Letter::Settle, [_]) => Ok(Frame::Settle),
+            (Letter::Forward, &[_, year]) => Ok(Frame::Forward(year)),
+            (Letter::Factor, &[_, year]) => Ok(Frame::Factor(year)),
+            (Letter::Rate, &[_, year]) => Ok(Frame::Rate(year)),
+            (Letter::Reserve, [_]) => Ok(Frame::Reserve),
+            _ => Err(Refusal::WrongLength),
         }
     }
 }

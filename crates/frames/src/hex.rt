@@ -33,7 +33,7 @@ pub fn decode(line: &[u8]) -> Option<Bytes>
     ensures value { option_map (λ bytes. bytes.items) result ≡ decoded line.now }
     ensures count { IfSome result (λ bytes. (1 ≤ length bytes.items) × (length bytes.items ≤ 10)) }
 {
-    if line.is_empty() || line.len() > 20 || line.len() % 2 != 0 {
+    if !(1..=20).contains(&line.len()) || line.len() % 2 != 0 {
         return None;
     }
     let mut bytes = Bytes::new();

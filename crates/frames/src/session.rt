@@ -43,7 +43,7 @@ fn call_of<K: Instrument>(class: Class, letter: Letter, bytes: &[u8]) -> Result<
     match Frame::read(letter, bytes, K::LENGTH)? {
         Frame::Open { .. } => Err(Refusal::OutOfTurn),
         Frame::Quote => {
-            let body = &bytes[bytes.len().min(1)..];
+            let body = bytes.get(1..).unwrap_or(&[]);
             Ok(Call::Enter(K::make(class, body)?))
         }
         Frame::Withdraw(maturity) => Ok(Call::Withdraw(maturity)),
@@ -81,11 +81,11 @@ impl<'a, K: Instrument> Session<'a, K> {
         ensures class { self.new.class ≡ self.old.class }
         ensures outcome { (register_of K.read self.new.book, result) ≡ line_outcome (kind_by K.Instrument self.old.class) (register_of K.read self.old.book) line.now }
     {
+        // no `map_or_else` for this match or the next: with a closure that changes the book the check did not prove `outcome`
         let (letter, bytes) = match read_line(line) {
             Ok(read) => read,
             Err(refused) => return refused,
         };
-        // no `and_then`: with a closure that changes the book the check did not prove `outcome`
         match call_of::<K>(self.class, letter, &bytes) {
             Ok(call) => Answer::replied(letter, self.book.call(call)),
             Err(refusal) => Answer::refused(letter, refusal),
