@@ -5,8 +5,8 @@ ghost use Rattle.frames.specs.Frames.{frame_letter, frame_length, frame_read};
 use crate::letter::Letter;
 use instruments::refusal::Refusal;
 
-// It is read before a kind of instrument is known, so it is no `Call`. The bytes of an opening stay as they came, since they are refused only where an opening is in turn. The body of a quotation is left to
-// the kind of instrument that the book takes.
+// It is read before a kind of instrument is known, so it is no `Call`. The bytes of an opening stay as they came, since they are refused
+// only where an opening is in turn. The body of a quotation is left to the kind of instrument that the book takes.
 #[derive(Clone, Copy, Debug)]
 pub enum Frame {
     Open { kind: u8, class: u8, code: [u8; 3] },

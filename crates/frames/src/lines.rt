@@ -16,7 +16,8 @@ fn first_newline(input: &[u8]) -> Option<usize>
     input.iter().position(|byte| *byte == NEWLINE)
 }
 
-// The first line of an input, without its newline, and where the next begins. The place stays: its contract and the values of the test `cuts` hold it, and neither may go; in this crate `Lines` stands for it.
+// The first line of an input, without its newline, and where the next begins. The place stays: its contract and the values of the test
+// `cuts` hold it, and neither may go; in this crate `Lines` stands for it.
 pub fn first_line(input: &[u8]) -> Option<(&[u8], usize)>
     ensures value { option_map (λ x. (x.0.now, x.1)) result ≡ front_line input.now }
     ensures steps { MatchOption result (lines input.now ≡ []) (λ x. lines input.now ≡ x.0.now ∷ lines (drop x.1 input.now)) }

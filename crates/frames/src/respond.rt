@@ -18,7 +18,8 @@ use instruments::kind::Instrument;
 use instruments::swap::{Swap, SwapRow};
 use std::alloc::{AllocError, Global};
 
-// Opens a book of one kind of instrument in 60 places, and answers the lines that follow its opening. The caller makes the places: of an array of a generic kind's rows, lent as a slice, the check asks that it takes less than 2^63 bytes, and nothing bounds such a row.
+// Opens a book of one kind of instrument in 60 places, and answers the lines that follow its opening. The caller makes the places: of an
+// array of a generic kind's rows, lent as a slice, the check asks that it takes less than 2^63 bytes, and nothing bounds such a row.
 fn answer_opened<K: Instrument>(
     places: &mut [K::Row],
     opening: Opening,

@@ -23,7 +23,8 @@ use instruments::kind::Instrument;
 use instruments::refusal::Refusal;
 use std::alloc::AllocError;
 
-// Reads a line's letter and its bytes, or answers that it is refused unread. The two are no struct, since the public `Frame::read` takes them apart. Inlined, since its result is large to pass on.
+// Reads a line's letter and its bytes, or answers that it is refused unread. The two are no struct, since the public `Frame::read` takes
+// them apart. Inlined, since its result is large to pass on.
 #[inline(always)]
 pub(crate) fn read_line(line: &[u8]) -> Result<(Letter, Bytes), Answer>
     ensures { ok_map bytes_read result ≡ line_read line.now }
