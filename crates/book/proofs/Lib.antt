@@ -2,3 +2,4 @@ pub mod Quoted
 pub mod Ranks
 pub mod Shifts
 pub mod Standing
+pub mod Turns

@@ -1,5 +1,6 @@
 -- A book by its register.
 use Rattle.std.specs.Prelude.{◌≡◌, ℕ, min, Bool, cond, List, map, length, take, ℤ, is_some, IfSome, Some, None, Ok, Err, Option, Result, nat_lt}
+use Rattle.std.specs.Borrow.{GName}
 use Rattle.std.specs.List.{prefix_len}
 use Rattle.instruments.specs.Law.{Meaning}
 use Rattle.instruments.specs.declared.kind.Instrument.{Ghosts}
@@ -18,6 +19,10 @@ use Rattle.book.specs.declared.volume.Book.{Book}
 abbrev pub rows_of : {K Row : Type 0} {g : Ghosts K Row} → Book K Row g → List Row
 rows_of b = b.rows.now
 
+-- which lent places they are: the name by which the check knows the reference to them
+abbrev pub lender_of : {K Row : Type 0} {g : Ghosts K Row} → Book K Row g → GName
+lender_of b = b.rows.ghost_name
+
 -- the held quotations, made anew from their rows
 abbrev pub quotations_of : {K Row : Type 0} {g : Ghosts K Row} → (Row → Meaning) → Book K Row g → List Meaning
 quotations_of read b = map read (take b.len (rows_of b))
@@ -35,13 +40,13 @@ Sound read b = IfSome b.curve (λ c. Ok c.tables ≡ settled (span b.terms) (quo
 unfoldable pub rank : ℕ → List Meaning → ℕ
 rank m xs = prefix_len (λ x. nat_lt x.maturity m) xs
 
--- what the places hold after entering: the row in its place if it is accepted
-abbrev pub entered_rows : {K Row : Type 0} {g : Ghosts K Row} → (Row → Meaning) → Book K Row g → Meaning → Row → Bool → List Row
-entered_rows read b x row accepted = cond accepted (entered (rows_of b) (length (quotations_of read b)) (rank x.maturity (quotations_of read b)) row) (rows_of b)
+-- what the places hold after entering beside the quotations held: the row in its place if it is accepted
+abbrev pub entered_rows : {Row : Type 0} → List Meaning → List Row → Meaning → Row → Bool → List Row
+entered_rows xs rows x row accepted = cond accepted (entered rows (length xs) (rank x.maturity xs) row) rows
 
 -- after withdrawing
-abbrev pub withdrawn_rows : {K Row : Type 0} {g : Ghosts K Row} → (Row → Meaning) → Book K Row g → ℕ → Bool → List Row
-withdrawn_rows read b m accepted = cond accepted (withdrawn (rows_of b) (length (quotations_of read b)) (rank m (quotations_of read b))) (rows_of b)
+abbrev pub withdrawn_rows : {Row : Type 0} → List Meaning → List Row → ℕ → Bool → List Row
+withdrawn_rows xs rows m accepted = cond accepted (withdrawn rows (length xs) (rank m xs)) rows
 
 -- a call that changes the book answers no figures
 abbrev pub no_figures : Unit {0} → Option (ℤ × ℤ)
@@ -64,17 +69,17 @@ call_means means (Factor t) = Factor t
 call_means means (Rate t) = Rate t
 call_means means Reserve = Reserve
 
--- what the places hold after a call, by whether it is accepted
-abbrev pub rows_after : {K Row : Type 0} {g : Ghosts K Row} → (Row → Meaning) → (K → Row) → (K → Meaning) → Book K Row g → Call K → Bool → List Row
-rows_after read row means b (Enter x) accepted = entered_rows read b (means x) (row x) accepted
-rows_after read row means b (Withdraw m) accepted = withdrawn_rows read b m accepted
-rows_after read row means b (Post t a) accepted = rows_of b
-rows_after read row means b (Strike t) accepted = rows_of b
-rows_after read row means b Settle accepted = rows_of b
-rows_after read row means b (Forward t) accepted = rows_of b
-rows_after read row means b (Factor t) accepted = rows_of b
-rows_after read row means b (Rate t) accepted = rows_of b
-rows_after read row means b Reserve accepted = rows_of b
+-- what the places hold after a call, by the quotations held before it and by whether it is accepted
+abbrev pub rows_after : {K Row : Type 0} → (K → Row) → (K → Meaning) → List Meaning → List Row → Call K → Bool → List Row
+rows_after row means xs rows (Enter x) accepted = entered_rows xs rows (means x) (row x) accepted
+rows_after row means xs rows (Withdraw m) accepted = withdrawn_rows xs rows m accepted
+rows_after row means xs rows (Post t a) accepted = rows
+rows_after row means xs rows (Strike t) accepted = rows
+rows_after row means xs rows Settle accepted = rows
+rows_after row means xs rows (Forward t) accepted = rows
+rows_after row means xs rows (Factor t) accepted = rows
+rows_after row means xs rows (Rate t) accepted = rows
+rows_after row means xs rows Reserve accepted = rows
 
 -- a call on a book: the register is told it, the answer is the one defined, and the book is sound
 pub record Kept {K Row : Type 0} {g : Ghosts K Row} (read : Row → Meaning) (before : Book K Row g) (call : Call Meaning) (answer : Result (Option (ℤ × ℤ)) Refusal) (later : Book K Row g) : Type 0 where

@@ -1,9 +1,11 @@
 // A book through a list of calls, from opening on.
-ghost use Rattle.std.specs.Prelude.{min, map, length, IfOk};
+ghost use Rattle.std.specs.Prelude.{◌≡◌, if◌then◌else◌, min, map, length, is_ok, IfOk};
+ghost use Rattle.std.specs.Result.{OnOk};
 ghost use Rattle.curve.specs.Currencies.{span};
 ghost use Rattle.book.specs.Books.{call_means};
-ghost use Rattle.book.specs.Promise.{Promise};
-ghost use Rattle.book.specs.Runs.{Answers};
+ghost use Rattle.book.specs.Promise.{Promise, after};
+ghost use Rattle.book.specs.Register.{opened};
+ghost use Rattle.book.specs.Runs.{Answers, rows_run, Holds};
 
 use crate::call::Call;
 pub use crate::call::Reply;
@@ -12,8 +14,8 @@ use curve::terms::Terms;
 use instruments::kind::Instrument;
 use std::alloc::{AllocError, Global};
 
-// Runs a list of calls from opening on, and gives the answer to each. What the places hold in the end is left open here; `call` says it
-// after each call.
+// Runs a list of calls from opening on, and gives the answer to each. Memory for the answers is had before the first call, so that the places
+// keep what they had where there is none.
 pub fn run<K: Instrument>(
     heap: Global,
     terms: Terms,
@@ -21,10 +23,12 @@ pub fn run<K: Instrument>(
     calls: &[Call<K>],
 ) -> Result<Vec<Reply>, AllocError>
     ensures answers { IfOk result (Answers (span terms) (min 60 (length rows.old)) (map (call_means K.means) calls.now)) }
+    ensures places { rows.new ≡ (if is_ok result then rows_run K.Instrument.row K.means (opened (span terms) (min 60 (length rows.old))) rows.old calls.now else rows.old) }
+    ensures held { OnOk result (Holds K.read (after (opened (span terms) (min 60 (length rows.old))) (map (call_means K.means) calls.now)) rows.new) }
     ensures promise { Promise (span terms) (min 60 (length rows.old)) (map (call_means K.means) calls.now) }
 {
+    let mut replies = Vec::with_capacity(heap, calls.len())?;
     let mut book = Book::open(terms, rows);
-    let mut replies = Vec::new(heap);
     for call in calls {
         replies.push(book.call(*call))?;
     }

@@ -33,7 +33,7 @@ pub struct Book<'a, K: Instrument> {
 impl<'a, K: Instrument> Book<'a, K> {
     ghost use Rattle.std.specs.Prelude.{◌<◌, min, is_ok, IfOk, IfErr, Some};
     ghost use Rattle.instruments.specs.Law.{ok_map};
-    ghost use Rattle.book.specs.Books.{rows_of, quotations_of, register_of, rank, entered_rows, withdrawn_rows, no_figures, kept_curve, call_means, rows_after, Kept};
+    ghost use Rattle.book.specs.Books.{rows_of, lender_of, quotations_of, register_of, rank, entered_rows, withdrawn_rows, no_figures, kept_curve, call_means, rows_after, Kept};
     ghost use Rattle.book.specs.Register.{opened, is_held, told, reply};
     ghost use Rattle.book.specs.declared.call.Call.TheVariants.{Enter, Withdraw, Post, Strike, Settle, Forward, Factor, Rate, Reserve};
 
@@ -42,6 +42,7 @@ impl<'a, K: Instrument> Book<'a, K> {
     pub fn open(terms: Terms, rows: &'a mut [K::Row]) -> Book<'a, K>
         ensures register { register_of K.read result ≡ opened (span terms) (min 60 (length rows.old)) }
         ensures places { rows_of result ≡ rows.old }
+        ensures lender { lender_of result ≡ rows.entry.ghost_name }
     {
         Book {
             terms,
@@ -78,7 +79,8 @@ impl<'a, K: Instrument> Book<'a, K> {
     pub fn enter(&mut self, quotation: K) -> Result<(), Refusal>
         ensures register { register_of K.read self.new ≡ told (register_of K.read self.old) (Enter (K.means quotation)) }
         ensures answer { ok_map no_figures result ≡ reply (register_of K.read self.old) (Enter (K.means quotation)) }
-        ensures places { rows_of self.new ≡ entered_rows K.read self.old (K.means quotation) (K.Instrument.row quotation) (is_ok result) }
+        ensures places { rows_of self.new ≡ entered_rows (quotations_of K.read self.old) (rows_of self.old) (K.means quotation) (K.Instrument.row quotation) (is_ok result) }
+        ensures lender { lender_of self.new ≡ lender_of self.old }
     {
         let maturity = quotation.maturity();
         if self.terms.converged(maturity) {
@@ -103,7 +105,8 @@ impl<'a, K: Instrument> Book<'a, K> {
     pub fn withdraw(&mut self, maturity: u8) -> Result<(), Refusal>
         ensures register { register_of K.read self.new ≡ told (register_of K.read self.old) (Withdraw maturity) }
         ensures answer { ok_map no_figures result ≡ reply (register_of K.read self.old) (Withdraw maturity) }
-        ensures places { rows_of self.new ≡ withdrawn_rows K.read self.old maturity (is_ok result) }
+        ensures places { rows_of self.new ≡ withdrawn_rows (quotations_of K.read self.old) (rows_of self.old) maturity (is_ok result) }
+        ensures lender { lender_of self.new ≡ lender_of self.old }
     {
         let Ok(at) = self.find(maturity) else {
             return Err(Refusal::NoneHeld(maturity));
@@ -119,6 +122,7 @@ impl<'a, K: Instrument> Book<'a, K> {
         ensures register { register_of K.read self.new ≡ told (register_of K.read self.old) (Post year amount) }
         ensures answer { ok_map no_figures result ≡ reply (register_of K.read self.old) (Post year amount) }
         ensures places { rows_of self.new ≡ rows_of self.old }
+        ensures lender { lender_of self.new ≡ lender_of self.old }
     {
         self.flows.post(Flow::new(year, amount)?)
     }
@@ -128,6 +132,7 @@ impl<'a, K: Instrument> Book<'a, K> {
         ensures register { register_of K.read self.new ≡ told (register_of K.read self.old) (Strike year) }
         ensures answer { ok_map no_figures result ≡ reply (register_of K.read self.old) (Strike year) }
         ensures places { rows_of self.new ≡ rows_of self.old }
+        ensures lender { lender_of self.new ≡ lender_of self.old }
     {
         self.flows.strike(year)
     }
@@ -137,6 +142,7 @@ impl<'a, K: Instrument> Book<'a, K> {
         ensures register { register_of K.read self.new ≡ told (register_of K.read self.old) Settle }
         ensures answer { ok_map no_figures result ≡ reply (register_of K.read self.old) Settle }
         ensures places { rows_of self.new ≡ rows_of self.old }
+        ensures lender { lender_of self.new ≡ lender_of self.old }
     {
         let curve = settle::<K>(&self.terms, self.held())?;
         self.curve = Some(curve);
@@ -181,7 +187,8 @@ impl<'a, K: Instrument> Book<'a, K> {
     // Makes a call.
     pub fn call(&mut self, call: Call<K>) -> Reply
         ensures kept { Kept K.read self.old (call_means K.means call) result self.new }
-        ensures places { rows_of self.new ≡ rows_after K.read K.Instrument.row K.means self.old call (is_ok result) }
+        ensures places { rows_of self.new ≡ rows_after K.Instrument.row K.means (quotations_of K.read self.old) (rows_of self.old) call (is_ok result) }
+        ensures lender { lender_of self.new ≡ lender_of self.old }
     {
         match call {
             Call::Enter(quotation) => self.enter(quotation).map(|()| None),

@@ -2,6 +2,7 @@
 use crate::follow::Answer::*;
 use crate::follow::{answered, follow, swap, swap_row};
 use book::call::Call::*;
+use book::running::run;
 use book::volume::Book;
 use curve::terms::Terms;
 use instruments::swap::{Swap, SwapRow};
@@ -137,4 +138,31 @@ fn flows_leave_book_settled(rt: HostRuntime) -> Result<(), Fail> {
         (Factor(1), Figures(980_392_155, 980_392_158)),
     ];
     follow(&rt, *b"XXX", &mut [SwapRow::default(); 2], &calls)
+}
+
+#[test]
+fn rows_after_a_run(rt: HostRuntime) -> Result<(), Fail> {
+    let mut rows = [swap_row(60, 8); 4];
+    let terms = Terms::of_code(*b"XXX")?;
+    let calls = [
+        swap(5, 2),
+        swap(2, 1),
+        swap(5, 9),
+        Settle,
+        Withdraw(2),
+        swap(9, 3),
+        Withdraw(5),
+    ];
+    let replies = run(rt.alloc(), terms, &mut rows, &calls)?;
+    assert_eq!(rt; answered(replies[2]), Refused(11, 5));
+    assert_eq!(rt;
+        rows,
+        [
+            swap_row(9, 3),
+            swap_row(9, 3),
+            swap_row(60, 8),
+            swap_row(60, 8),
+        ]
+    );
+    Ok(())
 }
