@@ -53,6 +53,19 @@ impl<'a, K: Instrument> Book<'a, K> {
         }
     }
 
+    // Opens the book anew on other terms; its places keep what they have.
+    #[tactic(auto, unfolding(crate::specs::Register::opened))]
+    pub fn reopen(&mut self, terms: Terms)
+        ensures register { register_of K.read self.new ≡ opened (span terms) (min 60 (length (rows_of self.old))) }
+        ensures places { rows_of self.new ≡ rows_of self.old }
+        ensures lender { lender_of self.new ≡ lender_of self.old }
+    {
+        self.terms = terms;
+        self.len = 0;
+        self.flows = Table::empty();
+        self.curve = None;
+    }
+
     // The rows held.
     fn held(&self) -> &[K::Row]
         ensures { result.now ≡ take self.now.len (rows_of self.now) }

@@ -1,27 +1,36 @@
 -- The calls of lines keep the promise of a run of calls.
-use Rattle.std.proofs.Common.{◌≡◌, ℕ, Bool, true, false, cond, List, [], ◌∷◌, drop, Ok, Err, Result, Some, sym, subst}
+use Rattle.std.proofs.Common.{◌≡◌, ℕ, ◌<◌, ◌≤◌, Bool, true, false, cond, List, [], ◌∷◌, drop, codes, Ok, Err, Option, Result, Some, None, sym, refl, ap, ◌∙◌, subst, arith, rules}
+use Rattle.std.proofs.lemmas.List.{append-nil}
+use Rattle.std.specs.Str.{bytes_eq}
+use Rattle.instruments.specs.Bonds.{bond_read, bond_body}
+use Rattle.instruments.specs.Classes.{class_named}
 use Rattle.instruments.specs.Law.{Meaning, Lawful, ok_map}
+use Rattle.instruments.specs.Limits.{if_kept}
+use Rattle.instruments.specs.Swaps.{swap_read, swap_body}
+use Rattle.instruments.specs.declared.bond.BondRow.{BondRow}
 use Rattle.instruments.specs.declared.class.Class.{Class}
-use Rattle.instruments.specs.declared.kind.Instrument.{Ghosts}
 use Rattle.instruments.specs.declared.refusal.Refusal.{Refusal}
-use Rattle.instruments.specs.declared.refusal.Refusal.TheVariants.{OutOfTurn}
-use Rattle.curve.specs.Currencies.{span}
+use Rattle.instruments.specs.declared.refusal.Refusal.TheVariants.{BadCode, OutOfTurn}
+use Rattle.instruments.specs.declared.swap.SwapRow.{SwapRow}
+use Rattle.curve.specs.Currencies.{blend_span, currency_span, letters}
 use Rattle.curve.specs.Market.{and_then}
-use Rattle.curve.specs.declared.terms.Terms.{Terms}
-use Rattle.book.specs.Promise.{Promise}
+use Rattle.curve.specs.declared.terms.Blend.{Blend}
+use Rattle.book.specs.Promise.{Promise, after}
+use Rattle.book.specs.Register.{Register, opened}
 use Rattle.book.specs.declared.call.Call.{Call}
 use Rattle.book.specs.declared.call.Call.TheVariants as call
 use Rattle.book.proofs.Standing.{LawfulCall, AllLawfulCalls, promised}
 use Rattle.frames.specs.Frames.{frame_read}
-use Rattle.frames.specs.Inputs.{opening_means, line_opens}
-use Rattle.frames.specs.Promises.{with_call, with_read, open_calls, after_opening, ClosedPromise, PromiseLeft}
-use Rattle.frames.specs.Reads.{kind_by}
-use Rattle.frames.specs.Sessions.{Kind, line_read, call_of, opens, frame_call}
+use Rattle.frames.specs.Inputs.{kind_for, with_class, with_kind, opening_of, frame_opens, opening_answer, read_opens, line_opens, opened_by, stage_after}
+use Rattle.frames.specs.Kinds.{kind_named}
+use Rattle.frames.specs.Promises.{with_call, with_read, open_calls, after_opening, ClosedPromise, StageStands, Keeps}
+use Rattle.frames.specs.Sessions.{Kind, line_read, call_of, opens, frame_call, call_outcome, read_outcome, line_outcome}
 use Rattle.frames.specs.declared.answer.Answer.{Answer}
 use Rattle.frames.specs.declared.frame.Frame.{Frame}
 use Rattle.frames.specs.declared.frame.Frame.TheVariants as frame
 use Rattle.frames.specs.declared.letter.Letter.{Letter}
-use Rattle.frames.specs.declared.opening.Opening.{Opening}
+use Rattle.frames.specs.declared.opening.Named.{Named}
+use Rattle.frames.specs.declared.opening.Named.TheVariants.{Swap, Bond}
 
 -- what is made is lawful
 abbrev LawfulMade : Result Meaning Refusal → Type 0
@@ -67,31 +76,119 @@ module _ (k : Kind) (made : (body : List ℕ) → LawfulMade (k.quoted body)) wh
   lines_lawful [] = tt
   lines_lawful (line ∷ rest) = read_lawful (line_read line) (open_calls k rest) (lines_lawful rest)
 
--- the calls of lines at a kind of instrument with the law
-pub lines_promised : {K Row : Type 0} (g : Ghosts K Row) (class : Class) → ((r : Row) → Lawful (g.read r)) → (terms : Terms) (ls : List (List ℕ)) → Promise (span terms) 60 (open_calls (kind_by g class) ls)
-lines_promised {K} {Row} g class law terms ls = promised terms.blend 60 (open_calls k ls) (lines_lawful k made ls)
+-- a span that some blend has
+Spans : Option (ℕ × ℕ) → Type 0
+Spans span = (b : Option Blend) × (blend_span b ≡ span)
+
+blend : (liquid convergence : ℕ) → 1 ≤ liquid → liquid < convergence → convergence ≤ 90 → Spans (Some (liquid, convergence))
+unfolding Spans
+blend liquid convergence begins rises ends = (Some (record { liquid = liquid; convergence = convergence; begins = begins; rises = rises; ends = ends }), refl)
+
+either : (b : Bool) (x y : Option (ℕ × ℕ)) → Spans x → Spans y → Spans (cond b x y)
+either true x y s t = s
+either false x y s t = t
+
+currency_spans : (code : List ℕ) → Spans (currency_span code)
+unfolding Spans
+currency_spans code =
+    either (bytes_eq code (codes "XXX")) _ _ (None, refl)
+    (either (bytes_eq code (codes "DKK")) _ _ (blend 20 30 (omega arith) (omega arith) (omega arith))
+    (either (bytes_eq code (codes "EUR")) _ _ (blend 20 60 (omega arith) (omega arith) (omega arith))
+    (either (bytes_eq code (codes "GBP")) _ _ (blend 50 90 (omega arith) (omega arith) (omega arith))
+    (either (bytes_eq code (codes "USD")) _ _ (blend 30 70 (omega arith) (omega arith) (omega arith)) (blend 10 20 (omega arith) (omega arith) (omega arith))))))
+
+-- what is opened has such a span
+abbrev Opens : {E : Type 0} → Result (Named × Class × Option (ℕ × ℕ)) E → Type 0
+Opens (Ok opening) = Spans opening.2
+Opens (Err e) = Unit {0}
+
+class_opens : (kind : Named) (class : Option Class) (code : List ℕ) → Opens (with_class kind class code)
+class_opens kind None code = tt
+class_opens kind (Some class) code = go (letters code)
   where
-    k : Kind
-    k = kind_by g class
+    go : (b : Bool) → Opens (ok_map (λ s. (kind, class, s)) (if_kept b BadCode (Ok (currency_span code))))
+    go true = currency_spans code
+    go false = tt
 
-    go : (w : Result Row Refusal) → LawfulMade (ok_map g.read w)
-    go (Ok r) = law r
-    go (Err refusal) = tt
+kind_opens : (kind : Option Named) (class : Option Class) (code : List ℕ) → Opens (with_kind kind class code)
+kind_opens None class code = tt
+kind_opens (Some kind) class code = class_opens kind class code
 
-    made : (body : List ℕ) → LawfulMade (k.quoted body)
-    made body = go (g.making class body)
+opening_opens : (f : Frame) → Opens (opening_of f)
+opening_opens (frame.Open kind class code) = kind_opens (kind_named kind) (class_named class) code
+opening_opens frame.Quote = tt
+opening_opens (frame.Withdraw m) = tt
+opening_opens (frame.Post t a) = tt
+opening_opens (frame.Strike t) = tt
+opening_opens frame.Settle = tt
+opening_opens (frame.Forward t) = tt
+opening_opens (frame.Factor t) = tt
+opening_opens (frame.Rate t) = tt
+opening_opens frame.Reserve = tt
 
--- a line that opens a book
-pub opened_promise : (o : Opening) (line : List ℕ) (rest ls : List (List ℕ)) → Ok (opening_means o) ≡ line_opens line → ls ≡ line ∷ rest → PromiseLeft (Some o) rest → ClosedPromise ls
+frame_spans : (b : Bool) (w : Result Frame Refusal) → Opens (cond b (and_then w opening_of) (Err OutOfTurn))
+frame_spans true (Ok f) = opening_opens f
+frame_spans true (Err refusal) = tt
+frame_spans false w = tt
+
+answer_opens : (l : Letter) (w : Result (Named × Class × Option (ℕ × ℕ)) Refusal) → Opens w → Opens (opening_answer l w)
+answer_opens l (Ok opening) s = s
+answer_opens l (Err refusal) s = tt
+
+read_spans : (w : Result (Letter × List ℕ) Answer) → Opens (read_opens w)
+read_spans (Ok (l, bytes)) = answer_opens l (frame_opens l bytes) (frame_spans (opens l) (frame_read l bytes 0))
+read_spans (Err answer) = tt
+
+-- every swap and every bond that a body makes is lawful
+swap_lawful : (r : SwapRow) → Lawful (swap_read r)
+swap_lawful r = search rules
+
+bond_lawful : (r : BondRow) → Lawful (bond_read r)
+bond_lawful r = search rules
+
+made : {Row : Type 0} (read : Row → Meaning) → ((r : Row) → Lawful (read r)) → (w : Result Row Refusal) → LawfulMade (ok_map read w)
+made read law (Ok r) = law r
+made read law (Err refusal) = tt
+
+kind_lawful : (kind : Named) (class : Class) (body : List ℕ) → LawfulMade ((kind_for kind class).quoted body)
+kind_lawful Swap class body = made swap_read swap_lawful (swap_body class body)
+kind_lawful Bond class body = made bond_read bond_lawful (bond_body class body)
+
+-- the calls of lines on a book that is opened
+opened_promised : (kind : Named) (class : Class) (span : Option (ℕ × ℕ)) → Spans span → (ls : List (List ℕ)) → Promise span 60 (open_calls (kind_for kind class) ls)
+unfolding Spans
+opened_promised kind class span s ls = subst (λ s. Promise s 60 (open_calls (kind_for kind class) ls)) s.1 (promised s.0 60 (open_calls (kind_for kind class) ls) (lines_lawful (kind_for kind class) (kind_lawful kind class) ls))
+
+pub closed_promised : (ls : List (List ℕ)) → ClosedPromise ls
 unfolding ClosedPromise
-opened_promise o line rest ls opens split p = subst ClosedPromise (sym split) (subst (λ r. after_opening r rest (ClosedPromise rest)) opens p)
+closed_promised [] = tt
+closed_promised (line ∷ rest) = go (line_opens line) (read_spans (line_read line)) (closed_promised rest)
+  where
+    go : (w : Result (Named × Class × Option (ℕ × ℕ)) Answer) → Opens w → ClosedPromise rest → after_opening w rest (ClosedPromise rest)
+    go (Ok (kind, class, span)) s later = opened_promised kind class span s rest
+    go (Err answer) s later = later
 
--- a line that is refused before a book is open
-pub refused_promise : (a : Answer) (line : List ℕ) (rest ls : List (List ℕ)) → Err a ≡ line_opens line → ls ≡ line ∷ rest → ClosedPromise rest → ClosedPromise ls
-unfolding ClosedPromise
-refused_promise a line rest ls refuses split p = subst ClosedPromise (sym split) (subst (λ r. after_opening r rest (ClosedPromise rest)) refuses p)
+-- the register after lines is that after the calls which they make
+register_is : (k : Kind) (R : Register) (ls : List (List ℕ)) → stage_after (Some (k, R)) ls ≡ Some (k, after R (open_calls k ls))
+unfolding open_calls stage_after
+register_is k R [] = refl
+register_is k R (line ∷ rest) = register_is k (line_outcome k R line).0 rest ∙ ap (λ S. Some (k, S)) (go (line_read line))
+  where
+    call : (l : Letter) (w : Result (Call Meaning) Refusal) → after (call_outcome R l w).0 (open_calls k rest) ≡ after R (with_call w (open_calls k rest))
+    call l (Ok c) = refl
+    call l (Err refusal) = refl
 
--- no lines are left
-pub no_promise : (ls : List (List ℕ)) → ls ≡ [] → ClosedPromise ls
-unfolding ClosedPromise
-no_promise ls none = subst ClosedPromise (sym none) tt
+    go : (w : Result (Letter × List ℕ) Answer) → after (read_outcome k R w).0 (open_calls k rest) ≡ after R (with_read k w (open_calls k rest))
+    go (Ok (l, bytes)) = call l (frame_call k l bytes)
+    go (Err answer) = refl
+
+pub kept : Keeps None
+unfolding stage_after
+kept [] = tt
+kept (line ∷ rest) = go (line_opens line) (read_spans (line_read line)) (kept rest)
+  where
+    go : (w : Result (Named × Class × Option (ℕ × ℕ)) Answer) → Opens w → StageStands (stage_after None rest) → StageStands (stage_after (opened_by w).0 rest)
+    go (Ok (kind, class, span)) s later =
+        let calls = open_calls (kind_for kind class) rest in
+        subst StageStands (sym (register_is (kind_for kind class) (opened span 60) rest)) (opened_promised kind class span s rest calls [] (sym (append-nil calls)))
+    go (Err answer) s later = later

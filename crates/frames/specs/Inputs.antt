@@ -9,13 +9,13 @@ use Rattle.instruments.specs.declared.refusal.Refusal.{Refusal}
 use Rattle.instruments.specs.declared.refusal.Refusal.TheVariants.{OutOfTurn, UnknownKind}
 use Rattle.curve.specs.Currencies.{span, span_of}
 use Rattle.curve.specs.Market.{and_then}
-use Rattle.book.specs.Register.{opened}
+use Rattle.book.specs.Register.{Register, opened}
 use Rattle.frames.specs.Answers.{answer_line, reply_answer}
 use Rattle.frames.specs.Frames.{frame_read}
 use Rattle.frames.specs.Kinds.{kind_named}
 use Rattle.frames.specs.Lines.{lines}
 use Rattle.frames.specs.Reads.{kind_of}
-use Rattle.frames.specs.Sessions.{Kind, line_read, opens, open_answers}
+use Rattle.frames.specs.Sessions.{Kind, line_read, opens, line_outcome}
 use Rattle.frames.specs.declared.answer.Answer.{Answer}
 use Rattle.frames.specs.declared.frame.Frame.{Frame}
 use Rattle.frames.specs.declared.frame.Frame.TheVariants as frame
@@ -71,20 +71,30 @@ read_opens (Err answer) = Err answer
 abbrev pub line_opens : List ℕ → Result (Named × Class × Option (ℕ × ℕ)) Answer
 line_opens line = read_opens (line_read line)
 
--- the answers to lines: refusals until one opens a book of 60 places, then those of the open book
-abbrev pub after_line : Result (Named × Class × Option (ℕ × ℕ)) Answer → List ℕ → List (List ℕ) → List ℕ
-after_line (Ok (kind, class, span)) refused rest = answer_line (reply_answer letter.Open (Ok None)) ++ open_answers (kind_for kind class) (opened span 60) rest
-after_line (Err answer) refused rest = answer_line answer ++ refused
+-- where a dialogue stands: no book is open, or one of a kind, by its register
+abbrev pub Stage : Type 0
+Stage = Option (Kind × Register)
 
-unfoldable pub closed_answers : List (List ℕ) → List ℕ
-closed_answers [] = []
-closed_answers (line ∷ rest) = after_line (line_opens line) (closed_answers rest) rest
+-- what a line comes to before a book is open: a book of 60 places, or its answer
+abbrev pub opened_by : Result (Named × Class × Option (ℕ × ℕ)) Answer → Stage × Answer
+opened_by (Ok (kind, class, span)) = (Some (kind_for kind class, opened span 60), reply_answer letter.Open (Ok None))
+opened_by (Err answer) = (None, answer)
+
+-- what a line comes to: the stage after it, and its answer
+abbrev pub stage_outcome : Stage → List ℕ → Stage × Answer
+stage_outcome None line = opened_by (line_opens line)
+stage_outcome (Some (k, R)) line = (Some (k, (line_outcome k R line).0), (line_outcome k R line).1)
+
+-- the stage after lines
+unfoldable pub stage_after : Stage → List (List ℕ) → Stage
+stage_after s [] = s
+stage_after s (line ∷ rest) = stage_after (stage_outcome s line).0 rest
+
+-- the answers to lines
+unfoldable pub stage_answers : Stage → List (List ℕ) → List ℕ
+stage_answers s [] = []
+stage_answers s (line ∷ rest) = answer_line (stage_outcome s line).1 ++ stage_answers (stage_outcome s line).0 rest
 
 -- the answers to a whole input
 abbrev pub input_answers : List ℕ → List ℕ
-input_answers input = closed_answers (lines input)
-
--- the answers to the lines that are left once an opening is answered, or where none came
-abbrev pub answers_left : Option Opening → List (List ℕ) → List ℕ
-answers_left None rest = []
-answers_left (Some o) rest = open_answers (kind_for o.kind o.class) (opened (span o.terms) 60) rest
+input_answers input = stage_answers None (lines input)

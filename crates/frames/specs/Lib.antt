@@ -9,3 +9,4 @@ pub mod Lines
 pub mod Promises
 pub mod Reads
 pub mod Sessions
+pub mod Stages

@@ -3,16 +3,14 @@ use Rattle.std.specs.Prelude.{ℕ, List, [], ◌∷◌, Some, None, Ok, Err, Opt
 use Rattle.instruments.specs.Law.{Meaning}
 use Rattle.instruments.specs.declared.class.Class.{Class}
 use Rattle.instruments.specs.declared.refusal.Refusal.{Refusal}
-use Rattle.curve.specs.Currencies.{span}
-use Rattle.book.specs.Promise.{Promise}
+use Rattle.book.specs.Promise.{Stands, Promise}
 use Rattle.book.specs.declared.call.Call.{Call}
-use Rattle.frames.specs.Inputs.{kind_for, line_opens}
+use Rattle.frames.specs.Inputs.{kind_for, line_opens, Stage, stage_after}
 use Rattle.frames.specs.Lines.{lines}
 use Rattle.frames.specs.Sessions.{Kind, line_read, frame_call}
 use Rattle.frames.specs.declared.answer.Answer.{Answer}
 use Rattle.frames.specs.declared.letter.Letter.{Letter}
 use Rattle.frames.specs.declared.opening.Named.{Named}
-use Rattle.frames.specs.declared.opening.Opening.{Opening}
 
 -- the calls that lines make on an open book: one for each line that reads as one
 abbrev pub with_call : Result (Call Meaning) Refusal → List (Call Meaning) → List (Call Meaning)
@@ -40,7 +38,11 @@ ClosedPromise (line ∷ rest) = after_opening (line_opens line) rest (ClosedProm
 abbrev pub InputPromise : List ℕ → Type 0
 InputPromise input = ClosedPromise (lines input)
 
--- the promise that is left to keep once an opening is answered, or where none came
-abbrev pub PromiseLeft : Option Opening → List (List ℕ) → Type 0
-PromiseLeft None rest = Unit {0}
-PromiseLeft (Some o) rest = Promise (span o.terms) 60 (open_calls (kind_for o.kind o.class) rest)
+-- what is owed at a stage: where a book is open, what its register owes
+abbrev pub StageStands : Stage → Type 0
+StageStands None = Unit {0}
+StageStands (Some (k, R)) = Stands R
+
+-- it is owed whatever lines come
+abbrev pub Keeps : Stage → Type 0
+Keeps s = (ls : List (List ℕ)) → StageStands (stage_after s ls)

@@ -1,5 +1,5 @@
 -- What a line comes to, before a book is open and after.
-use Rattle.std.specs.Prelude.{ℕ, Bool, cond, List, [], ◌∷◌, ◌++◌, drop, Some, None, Ok, Err, Option, Result, ◌==◌}
+use Rattle.std.specs.Prelude.{ℕ, Bool, cond, List, drop, Some, None, Ok, Err, Option, Result, ◌==◌}
 use Rattle.instruments.specs.Law.{Meaning, ok_map}
 use Rattle.instruments.specs.declared.refusal.Refusal.{Refusal}
 use Rattle.instruments.specs.declared.refusal.Refusal.TheVariants.{Malformed, OutOfTurn}
@@ -7,7 +7,7 @@ use Rattle.curve.specs.Market.{and_then}
 use Rattle.book.specs.Register.{Register, told, reply}
 use Rattle.book.specs.declared.call.Call.{Call}
 use Rattle.book.specs.declared.call.Call.TheVariants as call
-use Rattle.frames.specs.Answers.{answer_line, reply_answer, unread_answer}
+use Rattle.frames.specs.Answers.{reply_answer, unread_answer}
 use Rattle.frames.specs.Frames.{frame_letter, frame_read}
 use Rattle.frames.specs.Hex.{decoded}
 use Rattle.frames.specs.Letters.{letter_code}
@@ -64,8 +64,3 @@ read_outcome k R (Err answer) = (R, answer)
 
 abbrev pub line_outcome : Kind → Register → List ℕ → Register × Answer
 line_outcome k R line = read_outcome k R (line_read line)
-
--- the answers to the lines of an open book
-unfoldable pub open_answers : Kind → Register → List (List ℕ) → List ℕ
-open_answers k R [] = []
-open_answers k R (line ∷ rest) = answer_line (line_outcome k R line).1 ++ open_answers k (line_outcome k R line).0 rest

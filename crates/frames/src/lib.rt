@@ -10,6 +10,7 @@ pub mod lines;
 mod open;
 pub mod opening;
 pub mod respond;
+pub mod responder;
 mod session;
 #[cfg(test)]
 mod tests;

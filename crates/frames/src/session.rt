@@ -1,27 +1,23 @@
 // An open book: what a line calls, and what is answered.
-ghost use Rattle.std.specs.Prelude.{◌≡◌, ◌++◌, min, length, OnOk};
+ghost use Rattle.std.specs.Prelude.{◌≡◌, min, length};
 ghost use Rattle.instruments.specs.Law.{ok_map};
 ghost use Rattle.curve.specs.Currencies.{span};
-ghost use Rattle.curve.specs.declared.terms.Terms.{Terms};
-ghost use Rattle.book.specs.Books.{call_means, register_of};
-ghost use Rattle.book.specs.Promise.{Promise};
+ghost use Rattle.book.specs.Books.{call_means, register_of, rows_of};
 ghost use Rattle.book.specs.Register.{opened};
-ghost use Rattle.frames.specs.Promises.{open_calls};
 ghost use Rattle.frames.specs.Reads.{bytes_read, kind_by};
-ghost use Rattle.frames.specs.Sessions.{line_read, frame_call, line_outcome, open_answers};
+ghost use Rattle.frames.specs.Sessions.{line_read, frame_call, line_outcome};
 
 use crate::answer::Answer;
 use crate::frame::Frame;
 use crate::hex::{Bytes, decode};
 use crate::letter::Letter;
-use crate::lines::Lines;
 use crate::opening::Opening;
 use book::call::Call;
 use book::volume::Book;
+use curve::terms::Terms;
 use instruments::class::Class;
 use instruments::kind::Instrument;
 use instruments::refusal::Refusal;
-use std::alloc::AllocError;
 
 // Reads a line's letter and its bytes, or answers that it is refused unread. The two are no struct, since the public `Frame::read` takes
 // them apart. Inlined, since its result is large to pass on.
@@ -61,24 +57,32 @@ fn call_of<K: Instrument>(class: Class, letter: Letter, bytes: &[u8]) -> Result<
 // A book that is open, and the class of insurance that it values.
 #[derive(Drop)]
 pub(crate) struct Session<'a, K: Instrument> {
-    book: Book<'a, K>,
-    class: Class,
+    pub(crate) book: Book<'a, K>,
+    pub(crate) class: Class,
 }
 
 impl<'a, K: Instrument> Session<'a, K> {
-    // Opens a book that uses up to 60 places.
-    pub(crate) fn open(opening: Opening, places: &'a mut [K::Row]) -> Session<'a, K>
-        ensures class { result.class ≡ opening.class }
-        ensures register { register_of K.read result.book ≡ opened (span opening.terms) (min 60 (length places.old)) }
+    // No book is open yet: it has no terms and no class of its own.
+    pub(crate) fn shut(places: &'a mut [K::Row]) -> Session<'a, K>
+        ensures { rows_of result.book ≡ places.old }
     {
         Session {
-            book: Book::open(opening.terms, places),
-            class: opening.class,
+            book: Book::open(Terms::unblended(), places),
+            class: Class::OccupationalPension,
         }
     }
 
+    // Opens a book, which uses up to 60 of the places.
+    pub(crate) fn reopen(&mut self, opening: Opening)
+        ensures class { self.new.class ≡ opening.class }
+        ensures register { register_of K.read self.new.book ≡ opened (span opening.terms) (min 60 (length (rows_of self.old.book))) }
+    {
+        self.book.reopen(opening.terms);
+        self.class = opening.class;
+    }
+
     // The answer to a line.
-    fn answer(&mut self, line: &[u8]) -> Answer
+    pub(crate) fn answer(&mut self, line: &[u8]) -> Answer
         ensures class { self.new.class ≡ self.old.class }
         ensures outcome { (register_of K.read self.new.book, result) ≡ line_outcome (kind_by K.Instrument self.old.class) (register_of K.read self.old.book) line.now }
     {
@@ -91,20 +95,5 @@ impl<'a, K: Instrument> Session<'a, K> {
             Ok(call) => Answer::replied(letter, self.book.call(call)),
             Err(refusal) => Answer::refused(letter, refusal),
         }
-    }
-
-    // Answers lines, one after another. Lines and answers stay two: a source that is used up, and a sink that the caller keeps.
-    pub(crate) fn answer_lines(
-        &mut self,
-        lines: Lines<'_>,
-        out: &mut Vec<u8>,
-    ) -> Result<(), AllocError>
-        ensures answers { OnOk result (out.new.items ≡ out.old.items ++ open_answers (kind_by K.Instrument self.old.class) (register_of K.read self.old.book) lines.entry) }
-        ensures promise { (terms : Terms) → Promise (span terms) 60 (open_calls (kind_by K.Instrument self.old.class) lines.entry) }
-    {
-        for line in lines {
-            self.answer(line).write(out)?;
-        }
-        Ok(())
     }
 }

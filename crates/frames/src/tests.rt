@@ -3,7 +3,11 @@ use crate::frame::Frame;
 use crate::hex::decode;
 use crate::letter::Letter;
 use crate::lines::first_line;
+use crate::responder::Responder;
+use book::volume::MOST_PLACES;
+use instruments::bond::BondRow;
 use instruments::refusal::Refusal;
+use instruments::swap::SwapRow;
 use std::test::Fail;
 
 #[test]
@@ -95,4 +99,35 @@ fn letters(rt: HostRuntime) -> Result<(), Fail> {
             Ok(())
         },
     }
+}
+
+#[test]
+fn dialogue(rt: HostRuntime) -> Result<(), Fail> {
+    let mut swaps = [SwapRow::default(); MOST_PLACES];
+    let mut bonds = [BondRow::default(); MOST_PLACES];
+    let mut responder = Responder::new(&mut swaps, &mut bonds);
+    let mut out = Vec::new(rt.alloc());
+    let lines: [&[u8]; 8] = [
+        b"52",
+        b"4F5302585858",
+        b"4F4200585858",
+        b"5101000000002FAF0800",
+        b"5001000003E8",
+        b"53",
+        b"4401",
+        b"4F4200585858",
+    ];
+    for line in &lines {
+        responder.answer(line).write(&mut out)?;
+    }
+    let answers = b"520300\n\
+        4F0500\n\
+        4F0000\n\
+        510000\n\
+        500000\n\
+        530000\n\
+        440000000000002FAF0800000000002FAF0801\n\
+        4F0300\n";
+    assert!(rt; out.as_slice() == answers.as_slice());
+    Ok(())
 }
