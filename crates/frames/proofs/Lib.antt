@@ -3,3 +3,4 @@ pub mod Decoded
 pub mod Promised
 pub mod Served
 pub mod Spelled
+pub mod Dialogue

@@ -10,3 +10,4 @@ pub mod Promises
 pub mod Reads
 pub mod Sessions
 pub mod Stages
+pub mod Dialogues

@@ -11,6 +11,7 @@ mod open;
 pub mod opening;
 pub mod respond;
 pub mod responder;
+pub mod serve;
 mod session;
 #[cfg(test)]
 mod tests;

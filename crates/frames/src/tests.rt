@@ -4,10 +4,12 @@ use crate::hex::decode;
 use crate::letter::Letter;
 use crate::lines::first_line;
 use crate::responder::Responder;
+use crate::serve::serve;
 use book::volume::MOST_PLACES;
 use instruments::bond::BondRow;
 use instruments::refusal::Refusal;
 use instruments::swap::SwapRow;
+use std::io::BufReader;
 use std::test::Fail;
 
 #[test]
@@ -129,5 +131,25 @@ fn dialogue(rt: HostRuntime) -> Result<(), Fail> {
         440000000000002FAF0800000000002FAF0801\n\
         4F0300\n";
     assert!(rt; out.as_slice() == answers.as_slice());
+    Ok(())
+}
+
+#[test]
+fn pieces(rt: HostRuntime) -> Result<(), Fail> {
+    let heap = rt.alloc();
+    let lines: &[u8] = b"52\n4F4200585858\n\n5101000000002FAF0800\n53\n4401\n52";
+    let answers = b"520300\n\
+        4F0000\n\
+        3F0100\n\
+        510000\n\
+        530000\n\
+        440000000000002FAF0800000000002FAF0801\n\
+        52000000000000000000000000000000000000\n";
+    for capacity in [1, 3, 1000] {
+        let mut input = BufReader::with_capacity(heap, capacity, lines)?;
+        let mut out = Vec::new(heap);
+        serve(heap, &mut input, &mut out)?;
+        assert!(rt; out.as_slice() == answers.as_slice());
+    }
     Ok(())
 }

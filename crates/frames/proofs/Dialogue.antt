@@ -1,0 +1,144 @@
+-- A dialogue: lines are read and answered, and their answers written.
+use Rattle.std.proofs.Common.{◌≡◌, ℕ, suc, Bool, true, false, cond, eqb, List, [], ◌∷◌, ◌++◌, length, take, drop, Some, None, Ok, Err, Option, Result, IfSome, OnOk, sym, refl, ap, ◌∙◌, subst}
+use Rattle.std.proofs.lemmas.Bool.{cond-true, cond-false}
+use Rattle.std.proofs.lemmas.List.{append_assoc, append-nil}
+use Rattle.std.specs.Io.BufRead.{take_through, drop_through, DropsThrough}
+use Rattle.std.specs.Io.KnownBytes.{Appends}
+use Rattle.frames.specs.Answers.{answer_line}
+use Rattle.frames.specs.Dialogues.{Answered}
+use Rattle.frames.specs.Inputs.{Stage, stage_outcome, stage_answers, input_answers}
+use Rattle.frames.specs.Lines.{lines, line_length, next_line, front_line}
+use Rattle.frames.specs.Promises.{InputPromise}
+use Rattle.frames.specs.declared.answer.Answer.{Answer}
+use Rattle.frames.proofs.Cut.{lines_step}
+use Rattle.frames.proofs.Promised.{closed_promised}
+use Rattle.frames.proofs.Served.{served_turn}
+
+-- what is read up to a newline has the same first line
+through_front : (xs : List ℕ) → take (line_length (take_through 10 xs)) (take_through 10 xs) ≡ take (line_length xs) xs
+through_front [] = refl
+through_front (b ∷ bs) = go (eqb b 10) refl (through_front bs)
+  where
+    go : (t : Bool) → eqb b 10 ≡ t → take (line_length (take_through 10 bs)) (take_through 10 bs) ≡ take (line_length bs) bs
+        → take (line_length (take_through 10 (b ∷ bs))) (take_through 10 (b ∷ bs)) ≡ take (line_length (b ∷ bs)) (b ∷ bs)
+    go true e rest =
+        ap (λ l. take (line_length l) l) (cond-true (eqb b 10) (b ∷ []) (b ∷ take_through 10 bs) e)
+        ∙ ap (λ n. take n (b ∷ [])) (cond-true (eqb b 10) 0 (suc (line_length [])) e)
+        ∙ sym (ap (λ n. take n (b ∷ bs)) (cond-true (eqb b 10) 0 (suc (line_length bs)) e))
+    go false e rest =
+        ap (λ l. take (line_length l) l) (cond-false (eqb b 10) (b ∷ []) (b ∷ take_through 10 bs) e)
+        ∙ ap (λ n. take n (b ∷ take_through 10 bs)) (cond-false (eqb b 10) 0 (suc (line_length (take_through 10 bs))) e)
+        ∙ ap (λ l. b ∷ l) rest
+        ∙ sym (ap (λ n. take n (b ∷ bs)) (cond-false (eqb b 10) 0 (suc (line_length bs)) e))
+
+-- and what is left begins at the next line
+through_rest : (xs : List ℕ) → drop_through 10 xs ≡ drop (next_line xs) xs
+through_rest [] = refl
+through_rest (b ∷ bs) =
+    let rest = through_rest bs in
+    elim (eqb b 10) as (λ t. cond t bs (drop_through 10 bs) ≡ drop (cond t 1 (suc (next_line bs))) (b ∷ bs)) [ true ↦ refl | false ↦ rest ]
+
+-- nothing is read only where nothing is left
+none_read : (xs : List ℕ) → take_through 10 xs ≡ [] → xs ≡ []
+none_read [] e = refl
+none_read (b ∷ bs) e = go (eqb b 10) e
+  where
+    go : (t : Bool) → cond t (b ∷ []) (b ∷ take_through 10 bs) ≡ [] → b ∷ bs ≡ []
+    go true f = cc
+    go false f = cc
+
+line_read : (xs line front : List ℕ) → line ≡ take_through 10 xs → front ≡ take (line_length line) line → eqb (length line) 0 ≡ false → lines xs ≡ front ∷ lines (drop_through 10 xs)
+line_read [] line front is cut some = absurd (go line is some)
+  where
+    go : (line : List ℕ) → line ≡ [] → eqb (length line) 0 ≡ false → ⊥
+    go [] e f = cc
+    go (b ∷ bs) e f = cc
+line_read (b ∷ bs) line front is cut some =
+    let xs = b ∷ bs in
+    lines_step b bs ∙ ap (λ l. l ∷ lines (drop (next_line xs) xs)) (sym (cut ∙ ap (λ l. take (line_length l) l) is ∙ through_front xs)) ∙ ap (λ l. front ∷ lines l) (sym (through_rest xs))
+
+-- all answers are those that are written, those that are to be, and those to the lines that are left
+pub record Gone (input before : List ℕ) (left now : Option (List ℕ)) (pending : List ℕ) (s : Stage) : Type 0 where
+  pub rest : List ℕ
+  pub written : List ℕ
+  pub left_is : left ≡ Some rest
+  pub now_is : now ≡ Some written
+  pub all : written ++ (pending ++ stage_answers s (lines rest)) ≡ before ++ input_answers input
+
+abbrev pub Going : Option (List ℕ) → Option (List ℕ) → Option (List ℕ) → Option (List ℕ) → List ℕ → Stage → Type 0
+Going (Some input) (Some before) left now pending s = Gone input before left now pending s
+Going (Some input) None left now pending s = Unit {0}
+Going None before left now pending s = Unit {0}
+
+pub begins : (input before : Option (List ℕ)) (pending : List ℕ) (s : Stage) → pending ≡ [] → s ≡ None → Going input before input before pending s
+begins (Some input) (Some before) pending s none shut = record { rest = input; written = before; left_is = refl; now_is = refl; all = λ j. before ++ (none j ++ stage_answers (shut j) (lines input)) }
+begins (Some input) None pending s none shut = tt
+begins None before pending s none shut = tt
+
+-- a line is read and answered
+pub answers_more : (input before left left' now : Option (List ℕ)) (line front pending pending' : List ℕ) (s t : Stage) (a : Answer)
+    → IfSome left (λ xs. line ≡ take_through 10 xs) → DropsThrough left left' 10 → front ≡ take (line_length line) line → eqb (length line) 0 ≡ false
+    → (t, a) ≡ stage_outcome s front → pending' ≡ pending ++ answer_line a → Going input before left now pending s → Going input before left' now pending' t
+answers_more None before left left' now line front pending pending' s t a read dropped cut some outcome more g = tt
+answers_more (Some input) None left left' now line front pending pending' s t a read dropped cut some outcome more g = tt
+answers_more (Some input) (Some before) left left' now line front pending pending' s t a read dropped cut some outcome more g =
+    let line_is : line ≡ take_through 10 g.rest = subst (λ l. IfSome l (λ xs. line ≡ take_through 10 xs)) g.left_is read in
+    let split = line_read g.rest line front line_is cut some in record {
+      rest = drop_through 10 g.rest;
+      written = g.written;
+      left_is = subst (λ l. DropsThrough l left' 10) g.left_is dropped;
+      now_is = g.now_is;
+      all = ap (λ l. g.written ++ l) (turn (drop_through 10 g.rest) (lines g.rest) split) ∙ g.all;
+    }
+  where
+    turn : (rest : List ℕ) (ls : List (List ℕ)) → ls ≡ front ∷ lines rest → pending' ++ stage_answers t (lines rest) ≡ pending ++ stage_answers s ls
+    turn rest ls split = served_turn s t front (lines rest) ls pending pending' a outcome split more
+
+-- what is to be written is
+wrote : (written bs : List ℕ) (now : Option (List ℕ)) → Appends (Some written) now bs → now ≡ Some (written ++ bs)
+wrote written bs (Some ys) e = ap Some e
+wrote written bs None e = absurd e
+
+pub writes : (input before left now now' : Option (List ℕ)) (pending pending' : List ℕ) (s : Stage) → Appends now now' pending → pending' ≡ [] → Going input before left now pending s → Going input before left now' pending' s
+writes None before left now now' pending pending' s w none g = tt
+writes (Some input) None left now now' pending pending' s w none g = tt
+writes (Some input) (Some before) left now now' pending pending' s w none g = record {
+  rest = g.rest;
+  written = g.written ++ pending;
+  left_is = g.left_is;
+  now_is = wrote g.written pending now' (subst (λ n. Appends n now' pending) g.now_is w);
+  all = ap (λ l. (g.written ++ pending) ++ (l ++ stage_answers s (lines g.rest))) none ∙ append_assoc g.written pending (stage_answers s (lines g.rest)) ∙ g.all;
+}
+
+-- where nothing is left to read, all is written
+pub ends : (input before left now now' : Option (List ℕ)) (line pending : List ℕ) (s : Stage) → IfSome left (λ xs. line ≡ take_through 10 xs) → line ≡ [] → Appends now now' pending
+    → Going input before left now pending s → Answered input before now'
+unfolding stage_answers
+ends None before left now now' line pending s read none w g = tt
+ends (Some input) None left now now' line pending s read none w g = tt
+ends (Some input) (Some before) left now now' line pending s read none w g =
+    let line_is : line ≡ take_through 10 g.rest = subst (λ l. IfSome l (λ xs. line ≡ take_through 10 xs)) g.left_is read in
+    let over : g.rest ≡ [] = none_read g.rest (sym line_is ∙ none) in
+    let all : g.written ++ pending ≡ before ++ input_answers input =
+    ap (λ l. g.written ++ l) (sym (append-nil pending) ∙ ap (λ r. pending ++ stage_answers s (lines r)) (sym over)) ∙ g.all in
+    wrote g.written pending now' (subst (λ n. Appends n now' pending) g.now_is w) ∙ ap Some all
+
+-- what a read appends to an empty line is the line
+pub read_is : (left : Option (List ℕ)) (cleared items line : List ℕ) → cleared ≡ [] → line ≡ items → IfSome left (λ xs. items ≡ cleared ++ take_through 10 xs) → IfSome left (λ xs. line ≡ take_through 10 xs)
+read_is (Some xs) cleared items line none same read = same ∙ read ∙ ap (λ l. l ++ take_through 10 xs) none
+read_is None cleared items line none same read = tt
+
+pub front_is : (line front : List ℕ) (n : ℕ) → Some (front, n) ≡ front_line line → (front ≡ take (line_length line) line) × (eqb (length line) 0 ≡ false)
+front_is line front n e = go (eqb (length line) 0) refl e
+  where
+    go : (t : Bool) → eqb (length line) 0 ≡ t → ◌≡◌ {A = Option (List ℕ × ℕ)} (Some (front, n)) (cond t None (Some (take (line_length line) line, next_line line))) → (front ≡ take (line_length line) line) × (eqb (length line) 0 ≡ false)
+    go true t e = cc
+    go false t e = let pair : ◌≡◌ {A = List ℕ × ℕ} (front, n) (take (line_length line) line, next_line line) = cc in (ap (λ p. p.0) pair, t)
+
+pub on_ok : {A E : Type 0} {P Q : Type 0} → (r : Result A E) → (P → Q) → OnOk r P → OnOk r Q
+on_ok (Ok x) f p = f p
+on_ok (Err e) f p = tt
+
+pub known_promised : (known : Option (List ℕ)) → IfSome known (λ bytes. InputPromise bytes)
+known_promised (Some bytes) = closed_promised (lines bytes)
+known_promised None = tt
