@@ -3,3 +3,4 @@ pub mod Ranks
 pub mod Shifts
 pub mod Standing
 pub mod Turns
+pub mod Worths

@@ -8,11 +8,11 @@ use Rattle.instruments.specs.declared.refusal.Refusal.{Refusal}
 use Rattle.instruments.specs.declared.refusal.Refusal.TheVariants.{NotSettled}
 use Rattle.curve.specs.Currencies.{span}
 use Rattle.curve.specs.Settling.{settled}
-use Rattle.curve.specs.declared.discount.Curve.{Curve}
 use Rattle.book.specs.Register.{Register, told, reply}
 use Rattle.book.specs.Rows.{entered, withdrawn}
 use Rattle.book.specs.declared.call.Call.{Call}
 use Rattle.book.specs.declared.call.Call.TheVariants.{Enter, Withdraw, Post, Strike, Settle, Forward, Factor, Rate, Reserve}
+use Rattle.book.specs.declared.settled.Settled.{Settled}
 use Rattle.book.specs.declared.volume.Book.{Book}
 
 -- what the places hold
@@ -30,11 +30,11 @@ quotations_of read b = map read (take b.len (rows_of b))
 -- the register of a book
 abbrev pub register_of : {K Row : Type 0} {g : Ghosts K Row} → (Row → Meaning) → Book K Row g → Register
 register_of read b =
-    record { span = span b.terms; usable = min 60 (length (rows_of b)); quotations = quotations_of read b; flows = b.flows.amounts; is_settled = is_some b.curve }
+    record { span = span b.terms; usable = min 60 (length (rows_of b)); quotations = quotations_of read b; flows = b.flows.amounts; is_settled = is_some b.settled }
 
 -- a book is sound if the curve that it keeps is the one of the held quotations: its type says so of every book, by what its own kind reads
 abbrev pub Sound : {K Row : Type 0} {g : Ghosts K Row} → (Row → Meaning) → Book K Row g → Type 0
-Sound read b = IfSome b.curve (λ c. Ok c.tables ≡ settled (span b.terms) (quotations_of read b))
+Sound read b = IfSome b.settled (λ s. Ok s.curve.tables ≡ settled (span b.terms) (quotations_of read b))
 
 -- how many rows of a list in rising order have a smaller maturity
 unfoldable pub rank : ℕ → List Meaning → ℕ
@@ -52,10 +52,10 @@ withdrawn_rows xs rows m accepted = cond accepted (withdrawn rows (length xs) (r
 abbrev pub no_figures : Unit {0} → Option (ℤ × ℤ)
 no_figures u = None
 
--- the curve that a settled book keeps
-abbrev pub kept_curve : Option Curve → Result Curve Refusal
-kept_curve None = Err NotSettled
-kept_curve (Some c) = Ok c
+-- what a settled book keeps
+abbrev pub kept_of : Option Settled → Result Settled Refusal
+kept_of None = Err NotSettled
+kept_of (Some s) = Ok s
 
 -- a call by what it means
 abbrev pub call_means : {K : Type 0} → (K → Meaning) → Call K → Call Meaning

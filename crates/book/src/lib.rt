@@ -4,5 +4,6 @@
 pub mod call;
 pub mod flow;
 pub mod running;
+mod settled;
 mod table;
 pub mod volume;

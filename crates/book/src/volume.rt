@@ -3,12 +3,14 @@ ghost use Rattle.std.specs.Prelude.{◌≡◌, ◌≤◌, length, map, take, Ok,
 ghost use Rattle.std.specs.List.{position};
 ghost use Rattle.std.proofs.Props.{props};
 ghost use Rattle.curve.specs.Currencies.{span};
-ghost use Rattle.curve.specs.Settling.{settled};
+ghost use Rattle.curve.specs.Questions.{signed_pair};
+ghost use Rattle.curve.specs.Reserve.{reserve_from};
+ghost use Rattle.curve.specs.Settling.{settled as settled_tables};
 
 use crate::call::{Call, Reply};
 use crate::flow::Flow;
+use crate::settled::Settled;
 use crate::table::Table;
-use curve::discount::Curve;
 use curve::settle::settle;
 use curve::terms::Terms;
 use instruments::kind::Instrument;
@@ -18,22 +20,23 @@ use instruments::refusal::Refusal;
 pub const MOST_PLACES: usize = 60;
 
 // The quotations stand as rows in the first `len` places, in rising order of maturity: the caller lends the places, so that a book needs no
-// memory of its own. A settled book keeps the curve of its quotations.
+// memory of its own. A settled book keeps the curve of its quotations and what its flows are worth on it.
 #[derive(Drop)]
 pub struct Book<'a, K: Instrument> {
     terms: Terms,
     rows: &'a mut [K::Row],
     len: usize,
     flows: Table,
-    curve: Option<Curve>,
+    settled: Option<Settled>,
     ghost within: { len ≤ length rows.now },
-    ghost sound: { IfSome curve (λ c. Ok c.tables ≡ settled (span terms) (map K.read (take len rows.now))) } by { Prim.hlevel props },
+    ghost sound: { IfSome settled (λ s. Ok s.curve.tables ≡ settled_tables (span terms) (map K.read (take len rows.now))) } by { Prim.hlevel props },
+    ghost worth: { IfSome settled (λ s. s.worth ≡ signed_pair (reserve_from s.curve.tables 0 flows.amounts)) } by { Prim.hlevel props },
 }
 
 impl<'a, K: Instrument> Book<'a, K> {
     ghost use Rattle.std.specs.Prelude.{◌<◌, min, is_ok, IfOk, IfErr, Some};
     ghost use Rattle.instruments.specs.Law.{ok_map};
-    ghost use Rattle.book.specs.Books.{rows_of, lender_of, quotations_of, register_of, rank, entered_rows, withdrawn_rows, no_figures, kept_curve, call_means, rows_after, Kept};
+    ghost use Rattle.book.specs.Books.{rows_of, lender_of, quotations_of, register_of, rank, entered_rows, withdrawn_rows, no_figures, kept_of, call_means, rows_after, Kept};
     ghost use Rattle.book.specs.Register.{opened, is_held, told, reply};
     ghost use Rattle.book.specs.declared.call.Call.TheVariants.{Enter, Withdraw, Post, Strike, Settle, Forward, Factor, Rate, Reserve};
 
@@ -49,7 +52,7 @@ impl<'a, K: Instrument> Book<'a, K> {
             rows,
             len: 0,
             flows: Table::empty(),
-            curve: None,
+            settled: None,
         }
     }
 
@@ -106,7 +109,7 @@ impl<'a, K: Instrument> Book<'a, K> {
             return Err(Refusal::NoPlaceLeft(maturity));
         }
         let row = quotation.to_row();
-        self.curve = None; // its figures lack the new quotation
+        self.settled = None; // its figures lack the new quotation
         self.rows.copy_within(at..self.len, at + 1);
         self.rows[at] = row;
         self.len += 1;
@@ -124,7 +127,7 @@ impl<'a, K: Instrument> Book<'a, K> {
         let Ok(at) = self.find(maturity) else {
             return Err(Refusal::NoneHeld(maturity));
         };
-        self.curve = None; // its figures rest on the quotation withdrawn
+        self.settled = None; // its figures rest on the quotation withdrawn
         self.rows.copy_within(at + 1..self.len, at);
         self.len -= 1;
         Ok(())
@@ -137,7 +140,12 @@ impl<'a, K: Instrument> Book<'a, K> {
         ensures places { rows_of self.new ≡ rows_of self.old }
         ensures lender { lender_of self.new ≡ lender_of self.old }
     {
-        self.flows.post(Flow::new(year, amount)?)
+        let flow = Flow::new(year, amount)?;
+        self.flows.post(flow)?;
+        if let Some(settled) = &mut self.settled {
+            settled.add(flow.year, flow.amount);
+        }
+        Ok(())
     }
 
     // Strikes the flow of a year.
@@ -147,7 +155,11 @@ impl<'a, K: Instrument> Book<'a, K> {
         ensures places { rows_of self.new ≡ rows_of self.old }
         ensures lender { lender_of self.new ≡ lender_of self.old }
     {
-        self.flows.strike(year)
+        let amount = self.flows.strike(year)?;
+        if let Some(settled) = &mut self.settled {
+            settled.take(year, amount);
+        }
+        Ok(())
     }
 
     // Settles the book: from here on it answers questions by the curve of its quotations.
@@ -158,43 +170,46 @@ impl<'a, K: Instrument> Book<'a, K> {
         ensures lender { lender_of self.new ≡ lender_of self.old }
     {
         let curve = settle::<K>(&self.terms, self.held())?;
-        self.curve = Some(curve);
+        let worth = curve.total(&self.flows.amounts);
+        self.settled = Some(Settled { curve, worth });
         Ok(())
     }
 
-    // The curve of a settled book.
-    fn settled(&self) -> Result<&Curve, Refusal>
-        ensures { ok_map (λ x. x.now) result ≡ kept_curve self.now.curve }
+    // What a settled book keeps.
+    fn settled(&self) -> Result<&Settled, Refusal>
+        ensures { ok_map (λ x. x.now) result ≡ kept_of self.now.settled }
     {
-        self.curve.as_ref().ok_or(Refusal::NotSettled)
+        self.settled.as_ref().ok_or(Refusal::NotSettled)
     }
 
     // The forwards of a year, low and high, in units.
     pub fn forward(&self, year: u8) -> Result<(i64, i64), Refusal>
         ensures { ok_map Some result ≡ reply (register_of K.read self.now) (Forward year) }
     {
-        self.settled()?.forward(year)
+        self.settled()?.curve.forward(year)
     }
 
     // The discount factors of a year, low and high, in units.
     pub fn factor(&self, year: u8) -> Result<(i64, i64), Refusal>
         ensures { ok_map Some result ≡ reply (register_of K.read self.now) (Factor year) }
     {
-        self.settled()?.factor(year)
+        self.settled()?.curve.factor(year)
     }
 
     // The zero rates of a year, low and high, in units.
     pub fn rate(&self, year: u8) -> Result<(i64, i64), Refusal>
         ensures { ok_map Some result ≡ reply (register_of K.read self.now) (Rate year) }
     {
-        self.settled()?.rate(year)
+        self.settled()?.curve.rate(year)
     }
 
     // The reserve, low and high, in hundredths of a krona.
     pub fn reserve(&self) -> Result<(i64, i64), Refusal>
         ensures { ok_map Some result ≡ reply (register_of K.read self.now) Reserve }
     {
-        self.settled()?.reserve(&self.flows.amounts)
+        let settled = self.settled()?;
+        settled.curve.flows_within(&self.flows.amounts)?;
+        Ok(settled.worth)
     }
 
     // Makes a call.

@@ -1,5 +1,5 @@
--- What a flow adds to a balance, and whether it is refused.
-use Rattle.std.proofs.Common.{◌≡◌, ℕ, zero, suc, ◌+◌, ◌-◌, ◌*◌, ◌^◌, ◌<◌, ◌≤◌, ◌&&◌, List, [], ◌∷◌, length, get_or, take, drop, length-drop, add-one, ℤ, ◌+ℤ◌, is_some, Some, None, Ok, Err, Option, Result, sym, refl, ap, ◌∙◌, mul-le-mul, arith}
+-- What a flow adds to the reserve, and whether it is refused.
+use Rattle.std.proofs.Common.{◌≡◌, ℕ, zero, suc, ◌+◌, ◌-◌, ◌*◌, ◌^◌, ◌<◌, ◌≤◌, ◌&&◌, List, [], ◌∷◌, length, get_or, set, take, drop, length-drop, add-one, ℤ, pos, negsuc, ◌+ℤ◌, ◌-ℤ◌, is_some, IfSome, Some, None, Ok, Err, Option, Result, sym, refl, ap, ◌∙◌, mul-le-mul, arith}
 use Rattle.std.proofs.lemmas.List.{take_all, at_drop_more, at_drop_all}
 use Rattle.std.proofs.lemmas.Iterator.Adapters.{position_from-zero}
 use Rattle.std.proofs.lemmas.Int.{ints}
@@ -10,11 +10,10 @@ use Rattle.instruments.specs.Limits.{within}
 use Rattle.instruments.specs.declared.refusal.Refusal.{Refusal}
 use Rattle.instruments.specs.declared.refusal.Refusal.TheVariants.{OutsideHorizon}
 use Rattle.curve.specs.Range.{unit}
-use Rattle.curve.specs.Steps.{quotient, side_of, pair}
-use Rattle.curve.specs.Market.{entry, and_then}
+use Rattle.curve.specs.Steps.{quotient, side_of, opposite, pair}
+use Rattle.curve.specs.Market.{entry, and_then, Ordered}
 use Rattle.curve.specs.Questions.{signed_pair}
-use Rattle.curve.specs.Reserve.{portion, flow_share, reserve_from, flow_within, flows_within, asked_reserve, left_of, hundredth, largest, Bounded}
-use Rattle.curve.specs.declared.reserve.Balance.{Balance}
+use Rattle.curve.specs.Reserve.{portion, share, flow_share, reserve_from, flow_within, flows_within, asked_reserve, hundredth, signed_of, largest, Within, AllWithin}
 use Rattle.curve.specs.declared.side.Side.{Side}
 use Rattle.curve.specs.declared.side.Side.TheVariants.{Low, High}
 use Rattle.curve.specs.declared.tables.Tables.{Tables}
@@ -72,25 +71,82 @@ flows_refused T xs ends long first is =
     let whole : take (121 - (T.last + 1)) ys ≡ ys = take_all _ ys (simp length-drop (omega arith)) in
     ap (refused_at (T.last + 1)) (is ∙ ap (position is_some) whole ∙ position_from-zero is_some ys) ∙ sym (late T (T.last + 1) 0 ys (omega arith)) ∙ ap (λ t. flows_within T t ys) start ∙ passed T xs (T.last + 1) (omega arith) (omega arith)
 
--- the balance of the flows before year i: what is left of the table gives the rest of the reserve
-abbrev pub Summed : Tables → List (Option ℤ) → ℕ → Balance → Type 0
-Summed T xs i b = ((σ : Side) → left_of b σ +ℤ reserve_from T i (drop i xs) σ ≡ reserve_from T 0 xs σ) × Bounded i b
+pub of_pair : (p : ℤ × ℤ) (f : Side → ℤ) → p ≡ signed_pair f → (σ : Side) → signed_of σ p ≡ f σ
+of_pair p f e Low = ap (λ q. q.0) e
+of_pair p f e High = ap (λ q. q.1) e
 
-module _ (T : Tables) (xs : List (Option ℤ)) (i : ℕ) (b : Balance) (so : Summed T xs i b) where
+-- what is added to a pair of signed figures, from its two sides
+pub by_side : (p q : ℤ × ℤ) (more : Side → ℤ) → q.0 ≡ p.0 +ℤ more Low → q.1 ≡ p.1 +ℤ more High → (σ : Side) → signed_of σ q ≡ signed_of σ p +ℤ more σ
+by_side p q more low high Low = low
+by_side p q more low high High = high
+
+-- the worth of the flows before year i: what is left of the table gives the rest of the reserve
+abbrev pub Summed : Tables → List (Option ℤ) → ℕ → ℤ × ℤ → Type 0
+Summed T xs i p = (σ : Side) → (signed_of σ p +ℤ reserve_from T i (drop i xs) σ ≡ reserve_from T 0 xs σ) × Within (largest * i) (signed_of σ p)
+
+module _ (T : Tables) (xs : List (Option ℤ)) (i : ℕ) (p : ℤ × ℤ) (so : Summed T xs i p) where
   -- the flow x of year i, at the factors of that year
   module _ (x : Option ℤ) (factors : ℕ × ℕ) (below : i < length xs) (here : x ≡ get_or xs i None) (at_factors : factors ≡ entry T.factors i) where
     reserve_next : (σ : Side) → reserve_from T i (drop i xs) σ ≡ flow_share factors x σ +ℤ reserve_from T (i + 1) (drop (i + 1) xs) σ
     unfolding reserve_from
     reserve_next σ = rw (here, at_factors) (at_drop_more (λ ys. reserve_from T i ys σ) xs i None below)
 
-    -- it moves from what is left to the balance
-    pub summed_more : (b' : Balance) (n : ℕ) → n ≡ i + 1 → ((σ : Side) → left_of b' σ ≡ left_of b σ +ℤ flow_share factors x σ) → Bounded (i + 1) b' → Summed T xs n b'
-    summed_more b' n next more within = rw next ((λ σ. omega (arith, ints, reserve_next σ, so.0 σ, more σ)), within)
+    -- it moves from what is left to the sum
+    pub summed_more : (q : ℤ × ℤ) (n : ℕ) → n ≡ i + 1 → ((σ : Side) → signed_of σ q ≡ signed_of σ p +ℤ flow_share factors x σ) → ((σ : Side) → Within largest (flow_share factors x σ)) → Summed T xs n q
+    summed_more q n next more small = rw next (λ σ. (omega (arith, ints, reserve_next σ, (so σ).0, more σ), (omega (arith, ints, (so σ).1, more σ, small σ), omega (arith, ints, (so σ).1, more σ, small σ))))
 
-  -- after the last flow the balance is the reserve, if none is refused
-  pub summed_all : length xs ≤ i → Ok tt ≡ flows_within T 0 xs → Ok (signed_pair (left_of b)) ≡ asked_reserve T xs
+  -- after the last flow the sum is the reserve
+  pub summed_all : length xs ≤ i → p ≡ signed_pair (reserve_from T 0 xs)
   unfolding reserve_from
-  summed_all all kept = ap Ok (λ k. (end Low k, end High k)) ∙ ap (ok_map (λ _. signed_pair (reserve_from T 0 xs))) kept
+  summed_all all = λ k. (end Low k, end High k)
     where
-      end : (σ : Side) → left_of b σ ≡ reserve_from T 0 xs σ
-      end σ = omega (arith, ints, so.0 σ, at_drop_all (λ ys. reserve_from T i ys σ) xs i all)
+      end : (σ : Side) → signed_of σ p ≡ reserve_from T 0 xs σ
+      end σ = omega (arith, ints, (so σ).0, at_drop_all (λ ys. reserve_from T i ys σ) xs i all)
+
+-- the flow of year n changed from x to y: the reserve of the years from i on has the share of y in place of the one of x
+changed_from : (T : Tables) (σ : Side) (i : ℕ) (xs : List (Option ℤ)) (k n : ℕ) (x y : Option ℤ) → k < length xs → n ≡ i + k → get_or xs k None ≡ x
+    → reserve_from T i (set xs k y) σ +ℤ flow_share (entry T.factors n) x σ ≡ reserve_from T i xs σ +ℤ flow_share (entry T.factors n) y σ
+unfolding reserve_from
+changed_from T σ i [] k n x y h year here = absurd (omega arith)
+changed_from T σ i (z ∷ xs) zero n x y h year here =
+    let first : n ≡ i = omega arith in
+    omega (arith, ints, ap (λ t. flow_share (entry T.factors t) x σ) first, ap (λ t. flow_share (entry T.factors t) y σ) first, ap (λ v. flow_share (entry T.factors i) v σ) here)
+changed_from T σ i (z ∷ xs) (suc k) n x y h year here = omega (arith, ints, changed_from T σ (i + 1) xs k n x y (omega arith) (omega arith) here)
+
+-- a flow that is posted adds its share to the reserve, and one that is struck takes it away
+pub posted : (T : Tables) (xs : List (Option ℤ)) (t : ℕ) (a : ℤ) → t < length xs → get_or xs t None ≡ None → (σ : Side)
+    → reserve_from T 0 (set xs t (Some a)) σ ≡ reserve_from T 0 xs σ +ℤ share (entry T.factors t) a σ
+posted T xs t a h free σ =
+    let e : reserve_from T 0 (set xs t (Some a)) σ +ℤ pos 0 ≡ reserve_from T 0 xs σ +ℤ share (entry T.factors t) a σ = changed_from T σ 0 xs t t None (Some a) h (omega arith) free in
+    omega (arith, ints, e)
+
+pub struck : (T : Tables) (xs : List (Option ℤ)) (t : ℕ) (a : ℤ) → t < length xs → get_or xs t None ≡ Some a → (σ : Side)
+    → reserve_from T 0 (set xs t None) σ ≡ reserve_from T 0 xs σ -ℤ share (entry T.factors t) a σ
+struck T xs t a h held σ =
+    let e : reserve_from T 0 (set xs t None) σ +ℤ share (entry T.factors t) a σ ≡ reserve_from T 0 xs σ +ℤ pos 0 = changed_from T σ 0 xs t t (Some a) None h (omega arith) held in
+    omega (arith, ints, e)
+
+-- where no flow is refused, what the flows are worth is the reserve
+pub reserve_made : (T : Tables) (xs : List (Option ℤ)) (p : ℤ × ℤ) → p ≡ signed_pair (reserve_from T 0 xs) → Ok tt ≡ flows_within T 0 xs → Ok p ≡ asked_reserve T xs
+reserve_made T xs p worth kept = ap Ok worth ∙ ap (ok_map (λ _. signed_pair (reserve_from T 0 xs))) kept
+
+-- the reserve for flows of no more than 2^31 kronor each is no larger than so many of the largest portion
+share_small : (factors : ℕ × ℕ) (a : ℤ) → ((σ : Side) → side_of σ factors ≤ unit) → Within 2147483648 a → (σ : Side) → Within largest (share factors a σ)
+share_small factors (pos a) h small σ = let p = portion_small factors a h (omega (arith, ints, small)) σ in (omega (arith, ints), omega (arith, ints))
+share_small factors (negsuc a) h small σ = let p = portion_small factors (suc a) h (omega (arith, ints, small)) (opposite σ) in (omega (arith, ints), omega (arith, ints))
+
+pub reserve_small : (T : Tables) → Ordered T → (i : ℕ) (xs : List (Option ℤ)) → i + length xs ≤ 121 → AllWithin 2147483648 xs → (σ : Side) → Within (largest * length xs) (reserve_from T i xs σ)
+unfolding reserve_from
+reserve_small T o i [] h small σ = (omega (arith, ints), omega (arith, ints))
+reserve_small T o i (x ∷ xs) h small σ =
+    let rest = reserve_small T o (i + 1) xs (omega arith) (λ t. small (suc t)) σ in
+    let first = flow_small x (small 0) in
+    (omega (arith, ints, rest, first), omega (arith, ints, rest, first))
+  where
+    factors_le_unit : (σ : Side) → side_of σ (entry T.factors i) ≤ unit
+    factors_le_unit Low = omega (arith, (o.discounting i (omega arith)).0, (o.discounting i (omega arith)).1)
+    factors_le_unit High = (o.discounting i (omega arith)).1
+
+    flow_small : (x : Option ℤ) → IfSome x (Within 2147483648) → Within largest (flow_share (entry T.factors i) x σ)
+    flow_small None w = (omega (arith, ints), omega (arith, ints))
+    flow_small (Some a) w = share_small (entry T.factors i) a factors_le_unit w σ

@@ -1,12 +1,12 @@
 -- The reserve for a table of cash flows: what each is worth today, rounded outwards flow by flow.
-use Rattle.std.specs.Prelude.{ℕ, suc, ◌+◌, ◌*◌, ◌≤◌, List, [], ◌∷◌, ℤ, pos, negsuc, ◌+ℤ◌, ◌-ℤ◌, neg_ℤ, Some, None, Ok, Option, Result}
+use Rattle.std.specs.Prelude.{ℕ, suc, ◌+◌, ◌*◌, List, [], ◌∷◌, ℤ, pos, negsuc, ◌+ℤ◌, ◌≤ℤ◌, neg_ℤ, IfSome, Some, None, Ok, Option, Result, slice_index_or}
 use Rattle.instruments.specs.Law.{ok_map}
 use Rattle.instruments.specs.declared.refusal.Refusal.{Refusal}
 use Rattle.curve.specs.Steps.{quotient, opposite, side_of}
 use Rattle.curve.specs.Market.{entry, and_then}
 use Rattle.curve.specs.Questions.{asked, signed_pair}
-use Rattle.curve.specs.declared.reserve.Balance.{Balance}
 use Rattle.curve.specs.declared.side.Side.{Side}
+use Rattle.curve.specs.declared.side.Side.TheVariants.{Low, High}
 use Rattle.curve.specs.declared.tables.Tables.{Tables}
 
 -- a hundredth of a krona, in products of a krona and a unit
@@ -46,14 +46,19 @@ flows_within T t (x ∷ xs) = and_then (flow_within T t x) (λ _. flows_within T
 abbrev pub asked_reserve : Tables → List (Option ℤ) → Result (ℤ × ℤ) Refusal
 asked_reserve T xs = ok_map (λ _. signed_pair (reserve_from T 0 xs)) (flows_within T 0 xs)
 
--- what gains and losses leave on a side: the losses are those of the other side
-abbrev pub left_of : Balance → Side → ℤ
-left_of b σ = pos (side_of σ b.gains) -ℤ pos (side_of (opposite σ) b.losses)
-
 -- what the largest amount, 2^31 kronor, is worth at a factor of 1, in hundredths
 abbrev pub largest : ℕ
 largest = 214748364800
 
--- gains and losses of no more than n flows
-abbrev pub Bounded : ℕ → Balance → Type 0
-Bounded n b = (σ : Side) → (side_of σ b.gains ≤ largest * n) × (side_of σ b.losses ≤ largest * n)
+-- the figure of a side, in a low/high pair of signed figures
+abbrev pub signed_of : Side → ℤ × ℤ → ℤ
+signed_of Low p = p.0
+signed_of High p = p.1
+
+-- a signed figure is at most n either way
+abbrev pub Within : ℕ → ℤ → Type 0
+Within n z = (neg_ℤ (pos n) ≤ℤ z) × (z ≤ℤ pos n)
+
+-- and so is every amount that is held
+abbrev pub AllWithin : ℕ → List (Option ℤ) → Type 0
+AllWithin n xs = (t : ℕ) → IfSome (slice_index_or xs t None) (Within n)

@@ -1,27 +1,20 @@
 // The reserve for a table of cash flows.
-ghost use Rattle.std.specs.Prelude.{◌≡◌, ℕ, ◌+◌, ◌^◌, ◌≤◌, ◌+ℤ◌, IfOk, position, is_some};
+ghost use Rattle.std.specs.Prelude.{◌≡◌, ℕ, ◌^◌, ◌≤◌, IfOk, position, is_some};
 ghost use Rattle.curve.specs.Exact.{Fraction, Encloses, Rising, ReserveBetween};
 ghost use Rattle.curve.specs.Range.{unit};
+ghost use Rattle.curve.specs.Market.{entry};
 ghost use Rattle.curve.specs.Steps.{pair, side_of};
 ghost use Rattle.curve.specs.Questions.{signed_pair};
-ghost use Rattle.curve.specs.Reserve.{portion, share, flows_within, asked_reserve, left_of, largest, Bounded};
+ghost use Rattle.curve.specs.Reserve.{portion, share, signed_of, reserve_from, flows_within, asked_reserve, largest, Within};
 ghost use Rattle.curve.specs.declared.side.Side.{Side};
 
 use crate::discount::Curve;
-use crate::questions::above;
 use crate::side::Side;
 use crate::tables::YEARS;
 use instruments::refusal::Refusal;
 
 // a hundredth of a krona, in products of a krona and a unit
 const HUNDREDTH: u64 = 10_000_000;
-
-// What the flows so far are worth, low and high, gains and losses apart.
-#[derive(Clone, Copy)]
-pub(crate) struct Balance {
-    pub(crate) gains: (u64, u64),
-    pub(crate) losses: (u64, u64),
-}
 
 // The place of the first flow that is held.
 fn first_held(flows: &[Option<i32>]) -> Option<usize>
@@ -42,44 +35,25 @@ fn portion(factors: &(u64, u64), amount: u32) -> (u64, u64)
     Side::both(|side| side.divide(kronor * side.of(*factors), HUNDREDTH))
 }
 
-impl Balance {
-    // The balance with one flow more, at the factors of its year.
-    fn with_flow(self, factors: &(u64, u64), amount: i32) -> Balance
-        requires factors_le_unit { (σ : Side) → side_of σ factors.now ≤ unit }
-        requires room { Bounded 120 self }
-        ensures left { (σ : Side) → left_of result σ ≡ left_of self σ +ℤ share factors.now amount σ }
-        ensures bounded { (n : ℕ) → Bounded n self → Bounded (n + 1) result }
-    {
-        let Balance { gains, losses } = self;
-        // worked out once, before the branch, the portion cost a reserve a seventh more instructions
-        if amount < 0 {
-            let worth = portion(factors, amount.unsigned_abs());
-            Balance {
-                gains,
-                losses: Side::both(|side| side.of(losses) + side.of(worth)),
-            }
-        } else {
-            let worth = portion(factors, amount as u32);
-            Balance {
-                gains: Side::both(|side| side.of(gains) + side.of(worth)),
-                losses,
-            }
-        }
-    }
-
-    // What the gains leave over the losses, low and high: the losses are those of the other side.
-    fn left(self) -> (i64, i64)
-        requires { Bounded 121 self }
-        ensures { result ≡ signed_pair (left_of self) }
-    {
-        let Balance { gains, losses } = self;
-        Side::both(|side| above(side.of(gains), side.opposite().of(losses)))
+// What a flow is worth at the factors of its year, low and high, in hundredths: a loss takes the portion of the other side away.
+fn share(factors: &(u64, u64), amount: i32) -> (i64, i64)
+    requires factors_le_unit { (σ : Side) → side_of σ factors.now ≤ unit }
+    ensures value { result ≡ signed_pair (share factors.now amount) }
+    ensures small { (σ : Side) → Within largest (signed_of σ result) }
+{
+    // worked out once, before the branch, the portion cost the workload of settling a hundredth more instructions
+    if amount < 0 {
+        let worth = portion(factors, amount.unsigned_abs());
+        Side::both(|side| -(side.opposite().of(worth) as i64))
+    } else {
+        let worth = portion(factors, amount as u32);
+        Side::both(|side| side.of(worth) as i64)
     }
 }
 
 impl Curve {
     // Refuses the first flow after the curve's last year.
-    fn flows_within(&self, flows: &[Option<i32>; YEARS]) -> Result<(), Refusal>
+    pub fn flows_within(&self, flows: &[Option<i32>; YEARS]) -> Result<(), Refusal>
         ensures { result ≡ flows_within self.now.tables 0 flows.now }
     {
         let beyond = self.tables.last + 1;
@@ -89,6 +63,29 @@ impl Curve {
         }
     }
 
+    // What the flow of a year is worth, low and high, in hundredths: nothing after the last year of the table.
+    pub fn share(&self, year: u8, amount: i32) -> (i64, i64)
+        ensures value { result ≡ signed_pair (share (entry self.now.tables.factors year) amount) }
+        ensures small { (σ : Side) → Within largest (signed_of σ result) }
+    {
+        let factors = self.tables.factors.get(year as usize);
+        share(factors.unwrap_or(&(0, 0)), amount)
+    }
+
+    // What a table of flows by year is worth, low and high, in hundredths: the sum of the flows' shares.
+    pub fn total(&self, flows: &[Option<i32>; YEARS]) -> (i64, i64)
+        ensures { result ≡ signed_pair (reserve_from self.now.tables 0 flows.now) }
+    {
+        let mut total = (0, 0);
+        for (flow, factors) in flows.iter().zip(&self.tables.factors) {
+            if let Some(amount) = flow {
+                let share = share(factors, *amount);
+                total = (total.0 + share.0, total.1 + share.1);
+            }
+        }
+        total
+    }
+
     // The reserve for a table of flows by year, in whole kronor: low and high, in hundredths.
     pub fn reserve(&self, flows: &[Option<i32>; YEARS]) -> Result<(i64, i64), Refusal>
         ensures value { result ≡ asked_reserve self.now.tables flows.now }
@@ -96,15 +93,6 @@ impl Curve {
         ensures encloses { (growth : ℕ → Fraction) → Encloses self.now.tables growth → IfOk result (ReserveBetween growth flows.now) }
     {
         self.flows_within(flows)?;
-        let mut balance = Balance {
-            gains: (0, 0),
-            losses: (0, 0),
-        };
-        for (flow, factors) in flows.iter().zip(&self.tables.factors) {
-            if let Some(amount) = flow {
-                balance = balance.with_flow(factors, *amount);
-            }
-        }
-        Ok(balance.left())
+        Ok(self.total(flows))
     }
 }
