@@ -66,7 +66,7 @@ impl<'a, K: Instrument> Book<'a, K> {
         self.terms = terms;
         self.len = 0;
         self.flows = Table::empty();
-        self.curve = None;
+        self.settled = None;
     }
 
     // The rows held.
