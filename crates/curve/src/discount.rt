@@ -3,7 +3,7 @@ ghost use Rattle.curve.specs.Market.{Ordered};
 
 use crate::gap::Gap;
 use crate::step::{LEAST, UNIT};
-use crate::tables::{HORIZON, Tables, YEARS};
+use crate::tables::{HORIZON, Tables, YEARS, narrow, wide};
 use crate::terms::Terms;
 use instruments::kind::Instrument;
 use instruments::refusal::Refusal;
@@ -28,8 +28,8 @@ impl Curve {
         Curve {
             tables: Tables {
                 last: 0,
-                growths: [(LEAST, LEAST); YEARS],
-                factors: [(UNIT, UNIT); YEARS],
+                growths: [(LEAST as u32, LEAST as u32); YEARS],
+                factors: [(UNIT as u32, UNIT as u32); YEARS],
             },
         }
     }
@@ -39,15 +39,15 @@ impl Curve {
         ensures { ok_map (const_of self.new.tables) result ≡ with_gap self.old.tables (K.Instrument.means instrument) }
     {
         let last = self.tables.last;
-        let guess = self.tables.growths[HORIZON as usize].0;
+        let guess = wide(self.tables.growths[HORIZON as usize]).0;
         let gap = Gap::new(self, instrument);
         let growths = gap.growths(guess)?;
         let maturity = gap.maturity();
         let tables = &mut self.tables;
-        tables.growths[last as usize + 1..].fill(growths);
+        tables.growths[last as usize + 1..].fill(narrow(growths));
         tables.discount_on(last, maturity);
-        let steps = tables.factors[maturity as usize];
-        tables.factors[maturity as usize] = gap.tightened(growths, steps);
+        let steps = wide(tables.factors[maturity as usize]);
+        tables.factors[maturity as usize] = narrow(gap.tightened(growths, steps));
         tables.last = maturity;
         Ok(())
     }
@@ -62,7 +62,7 @@ impl Curve {
         let known = blend.liquid.min(self.tables.last);
         let mut tables = self.tables;
         for (year, growths) in tables.growths.iter_mut().enumerate() {
-            *growths = terms.growths(year as u8, *growths);
+            *growths = narrow(terms.growths(year as u8, wide(*growths)));
         }
         tables.discount_on(known, HORIZON);
         tables.last = HORIZON;

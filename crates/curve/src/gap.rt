@@ -10,6 +10,7 @@ use crate::discount::Curve;
 use crate::search::{Falling, furthest};
 use crate::side::Side;
 use crate::step::{LEAST, MOST, UNIT};
+use crate::tables::wide;
 use instruments::kind::Instrument;
 use instruments::refusal::Refusal;
 
@@ -97,14 +98,14 @@ impl<K: Instrument> Gap<K> {
         let mut known = (0, 0);
         // by the year, for which the instrument is asked as well as the table
         for year in 1..=instrument.maturity().min(last) {
-            let factors = tables.factors[year as usize];
+            let factors = wide(tables.factors[year as usize]);
             let payment = instrument.payment(year);
             known = Side::both(|side| side.of(known) + payment * side.of(factors));
         }
         Gap {
             instrument,
             last,
-            start: tables.factors[last as usize],
+            start: wide(tables.factors[last as usize]),
             known,
         }
     }

@@ -10,7 +10,7 @@ ghost use Rattle.curve.specs.declared.side.Side.{Side};
 use crate::discount::Curve;
 use crate::questions::above;
 use crate::side::Side;
-use crate::tables::YEARS;
+use crate::tables::{YEARS, wide};
 use instruments::refusal::Refusal;
 
 // a hundredth of a krona, in products of a krona and a unit
@@ -32,19 +32,19 @@ fn first_held(flows: &[Option<i32>]) -> Option<usize>
 
 // What an amount of kronor is worth at the factors of its year, low and high, in hundredths.
 #[tactic(auto, using(crate::proofs::Shares::portion_small), unfolding(crate::specs::Reserve::portion))]
-fn portion(factors: &(u64, u64), amount: u32) -> (u64, u64)
+fn portion(factors: &(u32, u32), amount: u32) -> (u64, u64)
     requires factors_le_unit { (σ : Side) → side_of σ factors.now ≤ unit }
     requires amount_bound { amount ≤ 2 ^ 31 }
     ensures value { result ≡ pair (portion factors.now amount) }
     ensures small { (σ : Side) → side_of σ result ≤ largest }
 {
     let kronor = u64::from(amount);
-    Side::both(|side| side.divide(kronor * side.of(*factors), HUNDREDTH))
+    Side::both(|side| side.divide(kronor * side.of(wide(*factors)), HUNDREDTH))
 }
 
 impl Balance {
     // The balance with one flow more, at the factors of its year.
-    fn with_flow(self, factors: &(u64, u64), amount: i32) -> Balance
+    fn with_flow(self, factors: &(u32, u32), amount: i32) -> Balance
         requires factors_le_unit { (σ : Side) → side_of σ factors.now ≤ unit }
         requires room { Bounded 120 self }
         ensures left { (σ : Side) → left_of result σ ≡ left_of self σ +ℤ share factors.now amount σ }

@@ -1,15 +1,24 @@
-use Rattle.std.proofs.Common.{◌≡◌, sym, ◌∙◌, subst, arith}
-use Rattle.curve.specs.Blending.{discount}
+use Rattle.std.proofs.Common.{◌≡◌, sym, ap, ◌∙◌, subst, arith}
+use Rattle.curve.specs.Blending.{blended_growths, discount, weight}
 use Rattle.curve.specs.Currencies.{span}
 use Rattle.curve.specs.Market.{Ordered}
 use Rattle.curve.specs.declared.tables.Tables.{Tables}
-use Rattle.curve.proofs.Blended.{discount_ordered, blended_growing, discount_is}
+use Rattle.curve.proofs.Blended.{growths_range, discount_ordered, blended_growing, discount_is}
 use Rattle.curve.proofs.discount.Curve.blended.Goals as goal
 use Rattle.curve.proofs.discount.Curve.blended.Goals.{After-discount_on}
 
 pub returns-in_default : goal.returns-in_default
 unfolding discount
 returns-in_default c = cc
+
+pub narrow-requires : goal.narrow-requires
+narrow-requires c =
+    let T = c.args.self.now.tables in
+    let year = c.loop-year.year in
+    let market = c.wide.ensures ∙ c.loop-year.invariant.2 year (omega arith) in
+    let is = c.growths.ensures ∙ ap (blended_growths (weight (span c.args.terms.now) year)) market in
+    let range = growths_range c.args.terms.now.blend T c.args.self.now.ordered year (omega arith) in
+    record { low_fits = omega (arith, ap (λ p. p.0) is, range); high_fits = omega (arith, ap (λ p. p.1) is, range) }
 
 pub discount_on-requires-clause-growing : goal.discount_on-requires-clause-growing
 discount_on-requires-clause-growing c =

@@ -33,7 +33,7 @@ invariant_of-result g c =
       | else-loop-year-test w ↦ rw w.known-is (known_small o law c.loop-year.year _ (omega (arith, c.maturity.ensures, law.one_year)) so)
       | then-loop-year-test+else-year-year-end w ↦ rw w.known-is (known_small o law (c.loop-year.year + 1) _ (omega (arith, c.maturity.ensures, law.one_year)) (known_more o law _ _ c.loop-year.known w.both-known.result c.loop-year.auto.year (omega arith) w.payment-payment.ensures so (search rules)))
     ] in
-    record { year = o.ends; started = λ σ. factor_small c.args.curve.now.tables o σ c.args.curve.now.tables.last o.ends; small = small }
+    record { year = o.ends; started = λ σ. rw c.wide.ensures (factor_small c.args.curve.now.tables o σ c.args.curve.now.tables.last o.ends); small = small }
 
 pub returns-clause-summed : goal.returns-clause-summed
 returns-clause-summed g c =
