@@ -21,6 +21,11 @@ unfolding worth
 known_none T x Low = (refl, omega arith)
 known_none T x High = (refl, omega arith)
 
+-- the worths of the years up to the curve's last
+pub record Whole (T : Tables) (x : Meaning) (known : ℕ × ℕ) : Type 0 where
+  pub all : known ≡ pair (λ σ. worth x.payment (factor_of T σ) T.last)
+  pub small : (σ : Side) → side_of σ known ≤ 240000000000000000
+
 module _ {T : Tables} (o : Ordered T) {x : Meaning} (law : Lawful x) where
   -- the payment of a year within the curve
   pub added_small : (t p : ℕ) → p ≡ x.payment t → t ≤ T.last → (σ : Side) → p * factor_of T σ t ≤ 2000000000000000
@@ -35,7 +40,7 @@ module _ {T : Tables} (o : Ordered T) {x : Meaning} (law : Lawful x) where
 
   -- there is none after maturity
   module _ (t : ℕ) (known : ℕ × ℕ) (stopped : t ≡ min x.maturity T.last + 1) (so : Known T x t known) where
-    pub known_all : known ≡ pair (λ σ. worth x.payment (factor_of T σ) T.last)
+    known_all : known ≡ pair (λ σ. worth x.payment (factor_of T σ) T.last)
     known_all = λ k. (side Low k, side High k)
       where
         side : (σ : Side) → side_of σ known ≡ worth x.payment (factor_of T σ) T.last
@@ -44,8 +49,8 @@ module _ {T : Tables} (o : Ordered T) {x : Meaning} (law : Lawful x) where
           | inr whole ↦ let e : t - 1 ≡ T.last = omega arith in (so σ).0 ∙ ap (worth x.payment (factor_of T σ)) e
         ]
 
-    pub known_small : (σ : Side) → side_of σ known ≤ 240000000000000000
-    known_small σ = omega (arith, (so σ).1, o.ends)
+    pub known_whole : Whole T x known
+    known_whole = record { all = known_all; small = λ σ. omega (arith, (so σ).1, o.ends) }
 
 -- the years of a gap that begins after year s: the factor and the worth of those before t
 module _ (σ : Side) (known start s : ℕ) (pay : ℕ → ℕ) (g : ℕ) where

@@ -35,6 +35,15 @@ pub(crate) struct Gap<K> {
     ghost small: { (side : Side) → side_of side known ≤ 240000000000000000 },
 }
 
+// A worth and that of one payment more, at the factors of its year.
+fn with_payment(worth: (u64, u64), payment: u64, factors: (u32, u32)) -> (u64, u64)
+    requires fits { (σ : Side) → side_of σ worth + payment * side_of σ factors < 2 ^ 64 }
+    ensures { result ≡ pair (λ σ. side_of σ worth + payment * side_of σ factors) }
+{
+    let factors = wide(factors);
+    Side::both(|side| side.of(worth) + payment * side.of(factors))
+}
+
 impl<K: Instrument> Falling for Gap<K> {
     ghost use Rattle.curve.specs.Gaps.{worth_of};
 
@@ -95,12 +104,23 @@ impl<K: Instrument> Gap<K> {
     {
         let tables = &curve.tables;
         let last = tables.last;
+        let maturity = instrument.maturity();
         let mut known = (0, 0);
-        // by the year, for which the instrument is asked as well as the table
-        for year in 1..=instrument.maturity().min(last) {
-            let factors = wide(tables.factors[year as usize]);
-            let payment = instrument.payment(year);
-            known = Side::both(|side| side.of(known) + payment * side.of(factors));
+        // By the year, for which the instrument is asked as well as the table. The year of maturity has a line of its own, so that the loop has years
+        // of the same coupon: with one loop for all, workload w2 took 945 million instructions for 819.
+        for year in 1..maturity.min(last + 1) {
+            known = with_payment(
+                known,
+                instrument.payment(year),
+                tables.factors[year as usize],
+            );
+        }
+        if maturity <= last {
+            known = with_payment(
+                known,
+                instrument.payment(maturity),
+                tables.factors[maturity as usize],
+            );
         }
         Gap {
             instrument,
