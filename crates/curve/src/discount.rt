@@ -18,6 +18,7 @@ impl Curve {
     ghost use Rattle.std.specs.Prelude.{◌≡◌};
     ghost use Rattle.curve.specs.Blending.{discount};
     ghost use Rattle.curve.specs.Currencies.{span};
+    ghost use Rattle.curve.specs.Gaps.{held_on};
     ghost use Rattle.curve.specs.Market.{const_of, unstripped, with_gap};
     ghost use Rattle.instruments.specs.Law.{ok_map};
 
@@ -34,22 +35,32 @@ impl Curve {
         }
     }
 
-    // Goes on with the gap up to the instrument's maturity.
+    // Goes on with the gap up to the instrument's maturity. The growths of later years are left to `hold_on`, once for all gaps: filled up to year 120
+    // at each, workload w2 took 819 million instructions for 724.
     pub(crate) fn extend<K: Instrument>(&mut self, instrument: K) -> Result<(), Refusal>
-        ensures { ok_map (const_of self.new.tables) result ≡ with_gap self.old.tables (K.Instrument.means instrument) }
+        ensures { ok_map (const_of (held_on self.new.tables)) result ≡ with_gap self.old.tables (K.Instrument.means instrument) }
     {
         let last = self.tables.last;
-        let guess = wide(self.tables.growths[HORIZON as usize]).0;
+        let guess = wide(self.tables.growths[last as usize]).0;
         let gap = Gap::new(self, instrument);
         let growths = gap.growths(guess)?;
         let maturity = gap.maturity();
         let tables = &mut self.tables;
-        tables.growths[last as usize + 1..].fill(narrow(growths));
+        tables.growths[last as usize + 1..=maturity as usize].fill(narrow(growths));
         tables.discount_on(last, maturity);
         let steps = wide(tables.factors[maturity as usize]);
         tables.factors[maturity as usize] = narrow(gap.tightened(growths, steps));
         tables.last = maturity;
         Ok(())
+    }
+
+    // Has the growths of the last year hold from there on.
+    pub(crate) fn hold_on(&mut self)
+        ensures { self.new.tables ≡ held_on self.old.tables }
+    {
+        let last = self.tables.last as usize;
+        let growths = self.tables.growths[last];
+        self.tables.growths[last + 1..].fill(growths);
     }
 
     // The discount curve: on terms with no blend this curve itself, else one that goes on to the horizon.
