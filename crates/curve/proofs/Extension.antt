@@ -9,16 +9,17 @@ use Rattle.instruments.specs.Law.{Meaning, Lawful, ok_map}
 use Rattle.instruments.specs.declared.refusal.Refusal.{Refusal}
 use Rattle.curve.specs.Steps.{side_of, opposite, pair}
 use Rattle.curve.specs.Worths.{continued, level, worth, gap_worth}
-use Rattle.curve.specs.Market.{by_year, entry, factor_of, worth_at, found_growths, discounted_on, stepped, tightened, tightened_by, rest_of, Leaves, extended, extended_growths, extended_factors, with_gap, InRange, Discounting, Ordered}
+use Rattle.curve.specs.Market.{by_year, entry, factor_of, worth_at, found_growths, discounted_on, stepped, tightened, tightened_by, extended, extended_growths, extended_factors, with_gap, InRange, Discounting, Ordered}
 use Rattle.curve.specs.Gaps.{worth_of, held_on}
 use Rattle.curve.specs.declared.discount.Curve.{Curve}
 use Rattle.curve.specs.declared.gap.Gap.{Gap}
 use Rattle.curve.specs.declared.side.Side.{Side}
 use Rattle.curve.specs.declared.side.Side.TheVariants.{Low, High}
 use Rattle.curve.specs.declared.tables.Tables.{Tables}
-use Rattle.curve.proofs.Continuation.{continued_known, continued_same}
+use Rattle.curve.proofs.Continuation.{continued_known, continued_same, worth_same}
 use Rattle.curve.proofs.Verdict.{Accepted, accepted}
-use Rattle.curve.proofs.Gaps.{gap_worth_is, steps_worth}
+use Rattle.curve.proofs.Gaps.{gap_worth_is}
+use Rattle.curve.proofs.Shares.{pair_side}
 
 -- a table that has f t in each year t is the table of f
 pub table_is : (f : ℕ → ℕ × ℕ) (table : List (ℕ × ℕ)) → length table ≡ 121 → ((t : ℕ) → t < 121 → entry table t ≡ f t) → table ≡ by_year f
@@ -54,24 +55,29 @@ module _ {T : Tables} {x : Meaning} {w : Side → ℕ → ℕ} {y : Meaning} (ga
   unfolding with_gap
   extends_alike growths e = ap (ok_map (extended T x)) (e ∙ verdict)
 
-  module _ (o : Ordered T) (law : Lawful x) (growths : ℕ × ℕ) (a : Accepted (worth_at T x) x growths) (steps : ℕ × ℕ) (steps_are : steps ≡ pair (λ τ. stepped T growths τ x.maturity)) where
-    rest_is : (σ : Side) → rest_of (worth_at T x) x growths (pair (λ τ. stepped T growths τ x.maturity)) σ ≡ worth x.payment (stepped T growths σ) (x.maturity - 1)
-    rest_is Low = omega (arith, steps_worth T o x law growths a Low)
-    rest_is High = omega (arith, steps_worth T o x law growths a High)
+  -- tables whose factors go on to maturity by its steps
+  module _ (growths : ℕ × ℕ) (D : Tables) (on : (t : ℕ) → t ≤ x.maturity → entry D.factors t ≡ pair (λ σ. stepped T growths σ t)) where
+    pub step_is : (σ : Side) (t : ℕ) → t ≤ x.maturity → factor_of D σ t ≡ stepped T growths σ t
+    step_is σ t h = ap (side_of σ) (on t h) ∙ pair_side (λ τ. stepped T growths τ t) σ
 
-    leaves_there : (σ : Side) → Leaves (worth_at T x) x growths (pair (λ τ. stepped T growths τ x.maturity)) σ
-    leaves_there Low = omega (arith, steps_worth T o x law growths a Low)
-    leaves_there High = omega (arith, steps_worth T o x law growths a High)
+    -- up to the curve's last year they are the curve's
+    pub known_alike : T.last ≤ x.maturity → (known : ℕ × ℕ) → known ≡ pair (λ σ. worth x.payment (factor_of T σ) T.last) → known ≡ pair (λ σ. worth x.payment (factor_of D σ) T.last)
+    unfolding stepped
+    known_alike within known is = is ∙ (λ i. (side Low i, side High i))
+      where
+        side : (σ : Side) → worth x.payment (factor_of T σ) T.last ≡ worth x.payment (factor_of D σ) T.last
+        side σ = sym (worth_same x.payment (factor_of D σ) (factor_of T σ) T.last (λ t h. step_is σ t (omega arith) ∙ continued_known σ (factor_of T σ) T.last (level (side_of (opposite σ) growths)) t h))
 
-    tight_there : pair (λ σ. tightened_by x σ (side_of σ (pair (λ τ. stepped T growths τ x.maturity))) (rest_of (worth_at T x) x growths (pair (λ τ. stepped T growths τ x.maturity)) (opposite σ))) ≡ pair (tightened T x growths)
+    pub tightened_alike : pair (λ σ. tightened_by y σ (factor_of D σ y.maturity) (worth y.payment (factor_of D (opposite σ)) (y.maturity - 1))) ≡ pair (tightened T x growths)
     unfolding tightened
-    tight_there = λ i. (tightened_by x Low (stepped T growths Low x.maturity) (rest_is High i), tightened_by x High (stepped T growths High x.maturity) (rest_is Low i))
+    tightened_alike =
+        (λ i. pair (λ σ. tightened_by (gap_is.same i) σ (factor_of D σ (gap_is.same i).maturity) (worth (gap_is.same i).payment (factor_of D (opposite σ)) ((gap_is.same i).maturity - 1)))) ∙ (λ i. (side Low i, side High i))
+      where
+        rest : (σ : Side) → worth x.payment (factor_of D σ) (x.maturity - 1) ≡ worth x.payment (stepped T growths σ) (x.maturity - 1)
+        rest σ = worth_same x.payment (factor_of D σ) (stepped T growths σ) (x.maturity - 1) (λ t h. step_is σ t (omega arith))
 
-    pub leaves_alike : (σ : Side) → Leaves w y growths steps σ
-    leaves_alike σ = subst (λ (p : (Side → ℕ → ℕ) × Meaning × (ℕ × ℕ)). Leaves p.0 p.1 growths p.2 σ) (sym (λ i. (gap_is.worths i, gap_is.same i, steps_are i))) (leaves_there σ)
-
-    pub tightened_alike : pair (λ σ. tightened_by y σ (side_of σ steps) (rest_of w y growths steps (opposite σ))) ≡ pair (tightened T x growths)
-    tightened_alike = (λ i. pair (λ σ. tightened_by (gap_is.same i) σ (side_of σ (steps_are i)) (rest_of (gap_is.worths i) (gap_is.same i) growths (steps_are i) (opposite σ)))) ∙ tight_there
+        side : (σ : Side) → tightened_by x σ (factor_of D σ x.maturity) (worth x.payment (factor_of D (opposite σ)) (x.maturity - 1)) ≡ tightened T x growths σ
+        side σ = λ i. tightened_by x σ (step_is σ x.maturity (omega arith) i) (rest (opposite σ) i)
 
 -- the code's tables, entry by entry
 -- growths that are those of a curve up to its last year and after year m, and the gap's between

@@ -48,8 +48,7 @@ impl Curve {
         let tables = &mut self.tables;
         tables.growths[last as usize + 1..=maturity as usize].fill(narrow(growths));
         tables.discount_on(last, maturity);
-        let steps = wide(tables.factors[maturity as usize]);
-        tables.factors[maturity as usize] = narrow(gap.tightened(growths, steps));
+        tables.factors[maturity as usize] = narrow(gap.tightened(tables));
         tables.last = maturity;
         Ok(())
     }

@@ -4,12 +4,13 @@ use Rattle.std.proofs.lemmas.Result.{err_from_is_err_and}
 use Rattle.std.proofs.lemmas.List.{places}
 use Rattle.instruments.specs.Law.{Meaning}
 use Rattle.curve.specs.Gaps.{worth_of, held_on}
-use Rattle.curve.specs.Market.{InRange, entry, extended, stepped, tightened, worth_at}
+use Rattle.curve.specs.Market.{InRange, entry, factor_of, extended, stepped, tightened, worth_at}
+use Rattle.curve.specs.Worths.{worth}
 use Rattle.curve.specs.Steps.{pair}
 use Rattle.curve.specs.declared.side.Side.{Side}
 use Rattle.curve.specs.declared.tables.Tables.{Tables}
-use Rattle.curve.proofs.Extension.{Opened, opened, refused_alike, accepted_alike, extends_alike, leaves_alike, tightened_alike, Spread, spread, spread_all, spread_over, steps_alike, tables_alike, tables_ordered}
-use Rattle.curve.proofs.Gaps.{growths_range, gap_rises, stepped_order, stepped_small, tightened_order, extended_ordered}
+use Rattle.curve.proofs.Extension.{Opened, opened, refused_alike, accepted_alike, extends_alike, known_alike, step_is, tightened_alike, Spread, spread, spread_all, spread_over, steps_alike, tables_alike, tables_ordered}
+use Rattle.curve.proofs.Gaps.{growths_range, gap_rises, stepped_unit, tightened_order, extended_ordered}
 use Rattle.curve.proofs.Verdict.{Accepted}
 use Rattle.curve.proofs.discount.Curve.extend.Given.{Over}
 use Rattle.curve.proofs.discount.Curve.extend.Goals as goal
@@ -75,12 +76,11 @@ discount_on-requires-clause-growing g c =
     spread_all (over g at.After-fill) InRange c.args.self.now.ordered.growing (taken g at.After-maturity-maturity).range
 
 -- the tables before the factors at maturity are tightened: the factors go on by the gap's steps
-record GoesOn (T : Tables) (x : Meaning) (growths : ℕ × ℕ) (m : ℕ) (D : Tables) : Type 0 where
+record Stepped (T : Tables) (growths : ℕ × ℕ) (m : ℕ) (D : Tables) : Type 0 where
   over : Spread T growths m D.growths
   reached : (t : ℕ) → t ≤ m → entry D.factors t ≡ pair (λ σ. stepped T growths σ t)
-  last : entry D.factors m ≡ pair (λ σ. stepped T growths σ x.maturity)
 
-goes_on : (g : Over) (c : After-discount_on g) → GoesOn c.args.self.now.tables (g.K.Instrument.means c.args.instrument) c.in_ok-growths.growths c.maturity-maturity.result c.discount_on.new.self
+goes_on : (g : Over) (c : After-discount_on g) → Stepped c.args.self.now.tables c.in_ok-growths.growths c.maturity-maturity.result c.discount_on.new.self
 goes_on g c =
     let at = goal.at.After-discount_on g c in
     let T = c.args.self.now.tables in
@@ -91,7 +91,6 @@ goes_on g c =
     record {
       over = subst (Spread T growths c.maturity-maturity.result) (sym c.discount_on.ensures.growths) f;
       reached = step;
-      last = step c.maturity-maturity.result (omega arith) ∙ ap (λ t. pair (λ σ. stepped T growths σ t)) (taken g at.After-maturity-maturity).ends;
     }
 
 pub tightened-requires : goal.tightened-requires
@@ -103,25 +102,21 @@ tightened-requires g c =
     let law = g.met.K.Instrument.lawful c.args.instrument in
     let growths = c.in_ok-growths.growths in
     let f = taken g at.After-maturity-maturity in
-    let a = f.accepts in
     let d = goes_on g at.After-discount_on in
-    let steps = c.wide-steps.ensures ∙ d.last in
+    let n = c.new-gap.ensures in
+    let on : (t : ℕ) → t ≤ x.maturity → entry c.discount_on.new.self.factors t ≡ pair (λ σ. stepped T growths σ t) = λ t h. d.reached t (omega (arith, h, f.ends)) in
     record {
-      in_range = f.range;
-      steps_le_unit = (
-        omega (arith, ap (λ p. p.0) steps, stepped_order T o x law growths a x.maturity, stepped_small T o x law growths a x.maturity),
-        omega (arith, ap (λ p. p.1) steps, stepped_small T o x law growths a x.maturity),
-      );
-      leaves = leaves_alike f.gap o law growths a _ steps;
+      rises = omega (arith, n.year, f.rises, c.maturity-maturity.ensures);
+      small = λ σ t h. let fits : t ≤ x.maturity = omega (arith, h, ap (λ y. y.maturity) f.gap.same) in rw (step_is f.gap growths c.discount_on.new.self on σ t fits) (stepped_unit T o x law growths f.accepts σ t);
+      summed = known_alike f.gap growths c.discount_on.new.self on (omega (arith, f.rises, f.ends)) c.new-gap.result.known n.summed
+          ∙ sym (λ i. pair (λ σ. worth (g.K.Instrument.means (n.same i)).payment (factor_of c.discount_on.new.self σ) (n.year i)));
     }
 
 -- the factors at maturity
 tight : (g : Over) (c : After-tightened g) → c.tightened.result ≡ pair (tightened c.args.self.now.tables (g.K.Instrument.means c.args.instrument) c.in_ok-growths.growths)
 tight g c =
     let at = goal.at.After-tightened g c in
-    let f = taken g at.After-maturity-maturity in
-    c.tightened.ensures
-    ∙ tightened_alike f.gap c.args.self.now.ordered (g.met.K.Instrument.lawful c.args.instrument) c.in_ok-growths.growths f.accepts _ (c.wide-steps.ensures ∙ (goes_on g at.After-discount_on).last)
+    c.tightened.ensures ∙ tightened_alike (taken g at.After-maturity-maturity).gap c.in_ok-growths.growths c.discount_on.new.self (λ t h. (goes_on g at.After-discount_on).reached t (omega (arith, h, (taken g at.After-maturity-maturity).ends)))
 
 pub narrow-requires-2 : goal.narrow-requires-2
 narrow-requires-2 g c =
