@@ -66,16 +66,25 @@ impl Curve {
     pub fn blended(&self, terms: &Terms) -> Curve
         ensures { result.tables ≡ discount (span terms.now) self.now.tables }
     {
+        let mut curve = *self;
+        curve.blend(*terms);
+        curve
+    }
+
+    // The same in place. The terms are a copy, which no write to the curve can change: read by reference in the loop, they cost workload w2
+    // 697 million instructions for 658.
+    pub(crate) fn blend(&mut self, terms: Terms)
+        ensures { self.new.tables ≡ discount (span terms) self.old.tables }
+    {
         let Some(blend) = terms.blend else {
-            return *self;
+            return;
         };
-        let known = blend.liquid.min(self.tables.last);
-        let mut tables = self.tables;
+        let tables = &mut self.tables;
+        let known = blend.liquid.min(tables.last);
         for (year, growths) in tables.growths.iter_mut().enumerate() {
             *growths = narrow(terms.growths(year as u8, wide(*growths)));
         }
         tables.discount_on(known, HORIZON);
         tables.last = HORIZON;
-        Curve { tables }
     }
 }
