@@ -15,7 +15,7 @@ factor_small T o High t h = (o.discounting t h).1
 pub payment_small : (p factor : ℕ) → p ≤ 2000000 → factor ≤ unit → p * factor ≤ 2000000000000000
 payment_small p factor small within = mul-le-mul {n₁ = p} {m₁ = factor} {n₂ = 2000000} {m₂ = unit} small within
 
-everywhere : (p : ℕ × ℕ) (t : ℕ) → t ≤ 120 → entry (replicate 121 p) t ≡ p
+pub everywhere : (p : ℕ × ℕ) (t : ℕ) → t ≤ 120 → entry (replicate 121 p) t ≡ p
 everywhere p t h = get_or-replicate 121 t p (0, 0) (omega arith)
 
 pub start_ordered : Ordered unstripped

@@ -115,6 +115,10 @@ module _ (T : Tables) (o : Ordered T) (x : Meaning) where
     unfolding stepped
     stepped_small t = continued_small High (factor_of T High) T.last (level growths.0) unit t (λ u h. (o.discounting u (omega (arith, o.ends))).1) (λ _ _ _. growths_range.0)
 
+    pub stepped_unit : (σ : Side) (t : ℕ) → stepped T growths σ t ≤ unit
+    stepped_unit Low t = omega (arith, stepped_order t, stepped_small t)
+    stepped_unit High t = stepped_small t
+
     -- the worth at the steps, taken apart at maturity
     pub steps_worth : (σ : Side) → worth_at T x σ (side_of (opposite σ) growths) ≡ worth x.payment (stepped T growths σ) (x.maturity - 1) + x.payment x.maturity * stepped T growths σ x.maturity
     unfolding worth_at stepped

@@ -10,6 +10,7 @@ pub mod Edges
 pub mod Enclosure
 pub mod Extension
 pub mod Gaps
+pub mod Held
 pub mod Marked
 pub mod OneYear
 pub mod Outward

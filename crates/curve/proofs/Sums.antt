@@ -1,8 +1,9 @@
 -- The worth of an instrument's payments at a curve, summed year by year.
-use Rattle.std.proofs.Common.{◌≡◌, ℕ, ◌<◌, ◌+◌, ◌-◌, ◌*◌, ◌≤◌, min, sym, refl, ap, ◌∙◌, inl, inr, arith}
+use Rattle.std.proofs.Common.{◌≡◌, ℕ, zero, suc, ◌<◌, ◌+◌, ◌-◌, ◌*◌, ◌^◌, ◌≤◌, min, sym, refl, ap, ◌∙◌, inl, inr, arith}
 use Rattle.std.proofs.lemmas.Bool.{cases_lt}
 use Rattle.instruments.specs.Law.{Meaning, Lawful}
 use Rattle.curve.specs.Market.{Ordered, factor_of}
+use Rattle.curve.specs.Range.{unit}
 use Rattle.curve.specs.Steps.{side_of, pair, step}
 use Rattle.curve.specs.Worths.{continued, level, worth, after, worth_from}
 use Rattle.curve.specs.declared.side.Side.{Side}
@@ -14,38 +15,48 @@ use Rattle.curve.proofs.Shares.{pair_side}
 
 -- the worths of the years before t
 abbrev pub Known : Tables → Meaning → ℕ → ℕ × ℕ → Type 0
-Known T x t known = (σ : Side) → (side_of σ known ≡ worth x.payment (factor_of T σ) (t - 1)) × (side_of σ known ≤ 2000000000000000 * (t - 1))
+Known T x t known = (σ : Side) → side_of σ known ≡ worth x.payment (factor_of T σ) (t - 1)
 
 pub known_none : (T : Tables) (x : Meaning) → Known T x 1 (0, 0)
 unfolding worth
-known_none T x Low = (refl, omega arith)
-known_none T x High = (refl, omega arith)
+known_none T x Low = refl
+known_none T x High = refl
 
-module _ {T : Tables} (o : Ordered T) {x : Meaning} (law : Lawful x) where
-  -- the payment of a year within the curve
-  pub added_small : (t p : ℕ) → p ≡ x.payment t → t ≤ T.last → (σ : Side) → p * factor_of T σ t ≤ 2000000000000000
-  added_small t p paid within σ = payment_small p (factor_of T σ t) (omega (arith, law.payment_limit t)) (factor_small T o σ t (omega (arith, o.ends)))
+pub known_more : (T : Tables) (x : Meaning) (t p : ℕ) (known sums : ℕ × ℕ) → 1 ≤ t → p ≡ x.payment t → Known T x t known → sums ≡ pair (λ σ. side_of σ known + p * factor_of T σ t) → Known T x (t + 1) sums
+known_more T x t p known sums one paid so are σ =
+    let e : t + 1 - 1 ≡ t = omega arith in
+    let sum : side_of σ sums ≡ side_of σ known + p * factor_of T σ t = ap (side_of σ) are ∙ pair_side (λ τ. side_of τ known + p * factor_of T τ t) σ in
+    let product : p * factor_of T σ t ≡ x.payment t * factor_of T σ t = ap (λ n. n * factor_of T σ t) paid in
+    rw e (omega (arith, sum, product, so σ, worth_turn x.payment (factor_of T σ) t one))
 
-  pub known_more : (t p : ℕ) (known sums : ℕ × ℕ) → 1 ≤ t → t ≤ T.last → p ≡ x.payment t → Known T x t known → sums ≡ pair (λ σ. side_of σ known + p * factor_of T σ t) → Known T x (t + 1) sums
-  known_more t p known sums one within paid so are σ =
-      let e : t + 1 - 1 ≡ t = omega arith in
-      let sum : side_of σ sums ≡ side_of σ known + p * factor_of T σ t = ap (side_of σ) are ∙ pair_side (λ τ. side_of τ known + p * factor_of T τ t) σ in
-      let product : p * factor_of T σ t ≡ x.payment t * factor_of T σ t = ap (λ n. n * factor_of T σ t) paid in
-      rw e (omega (arith, sum, product, (so σ).0, worth_turn x.payment (factor_of T σ) t one), omega (arith, sum, added_small t p paid within σ, (so σ).1))
+worth_small : (pay f : ℕ → ℕ) (n : ℕ) → ((t : ℕ) → pay t ≤ 2000000) → ((t : ℕ) → t ≤ n → f t ≤ unit) → worth pay f n ≤ 2000000000000000 * n
+unfolding worth
+worth_small pay f zero few small = omega arith
+worth_small pay f (suc n) few small = omega (arith, worth_small pay f n few (λ t a. small t (omega arith)), payment_small (pay (suc n)) (f (suc n)) (few (suc n)) (small (suc n) (omega arith)))
 
-  -- there is none after maturity
-  module _ (t : ℕ) (known : ℕ × ℕ) (stopped : t ≡ min x.maturity T.last + 1) (so : Known T x t known) where
-    pub known_all : known ≡ pair (λ σ. worth x.payment (factor_of T σ) T.last)
-    known_all = λ k. (side Low k, side High k)
-      where
-        side : (σ : Side) → side_of σ known ≡ worth x.payment (factor_of T σ) T.last
-        side σ = elim (cases_lt x.maturity T.last) [
-          | inl past ↦ let e : t - 1 ≡ x.maturity = omega arith in (so σ).0 ∙ ap (worth x.payment (factor_of T σ)) e ∙ sym (worth_past x.payment (factor_of T σ) x.maturity T.last law.none_after (omega arith))
-          | inr whole ↦ let e : t - 1 ≡ T.last = omega arith in (so σ).0 ∙ ap (worth x.payment (factor_of T σ)) e
-        ]
+-- at factors that are at most 1 there is room for the next
+pub known_fits : (T : Tables) {x : Meaning} → Lawful x → (n : ℕ) → n ≤ 120 → ((σ : Side) (t : ℕ) → t ≤ n → factor_of T σ t ≤ unit) → (t p : ℕ) (known : ℕ × ℕ) → t ≤ n → p ≡ x.payment t → Known T x t known
+    → (σ : Side) → side_of σ known + p * factor_of T σ t < 2 ^ 64
+known_fits T {x} law n room small t p known within paid so σ =
+    omega (arith, so σ, worth_small x.payment (factor_of T σ) (t - 1) law.payment_limit (λ u a. small σ u (omega arith)), payment_small p (factor_of T σ t) (omega (arith, paid, law.payment_limit t)) (small σ t within))
 
-    pub known_small : (σ : Side) → side_of σ known ≤ 240000000000000000
-    known_small σ = omega (arith, (so σ).1, o.ends)
+-- the worths of the years up to the curve's last
+pub record Whole (T : Tables) (x : Meaning) (known : ℕ × ℕ) : Type 0 where
+  pub all : known ≡ pair (λ σ. worth x.payment (factor_of T σ) T.last)
+  pub small : (σ : Side) → side_of σ known ≤ 240000000000000000
+
+-- there is none after maturity
+pub known_whole : {T : Tables} → Ordered T → {x : Meaning} → Lawful x → (t : ℕ) (known : ℕ × ℕ) → t ≡ min x.maturity T.last + 1 → Known T x t known → Whole T x known
+known_whole {T} o {x} law t known stopped so = record {
+  all = λ k. (side Low k, side High k);
+  small = λ σ. omega (arith, side σ, worth_small x.payment (factor_of T σ) T.last law.payment_limit (λ u a. factor_small T o σ u (omega (arith, o.ends))), o.ends);
+}
+  where
+    side : (σ : Side) → side_of σ known ≡ worth x.payment (factor_of T σ) T.last
+    side σ = elim (cases_lt x.maturity T.last) [
+      | inl past ↦ let e : t - 1 ≡ x.maturity = omega arith in so σ ∙ ap (worth x.payment (factor_of T σ)) e ∙ sym (worth_past x.payment (factor_of T σ) x.maturity T.last law.none_after (omega arith))
+      | inr whole ↦ let e : t - 1 ≡ T.last = omega arith in so σ ∙ ap (worth x.payment (factor_of T σ)) e
+    ]
 
 -- the years of a gap that begins after year s: the factor and the worth of those before t
 module _ (σ : Side) (known start s : ℕ) (pay : ℕ → ℕ) (g : ℕ) where

@@ -72,14 +72,6 @@ inner High a b = min a b
 abbrev pub tightened_by : Meaning → Side → ℕ → ℕ → ℕ
 tightened_by x σ step rest = inner σ step (quotient σ (admitted σ x.price - rest) (x.payment x.maturity))
 
--- what the payments before maturity are worth, from the worth of all of them and the factor at maturity
-abbrev pub rest_of : (Side → ℕ → ℕ) → Meaning → ℕ × ℕ → ℕ × ℕ → Side → ℕ
-rest_of w x growths steps σ = w σ (side_of (opposite σ) growths) - x.payment x.maturity * side_of σ steps
-
--- the payment at maturity is a part of the worth
-abbrev pub Leaves : (Side → ℕ → ℕ) → Meaning → ℕ × ℕ → ℕ × ℕ → Side → Type 0
-Leaves w x growths steps σ = x.payment x.maturity * side_of σ steps ≤ w σ (side_of (opposite σ) growths)
-
 -- the years before maturity are taken at the other side's factors
 unfoldable pub tightened : Tables → Meaning → ℕ × ℕ → Side → ℕ
 tightened T x growths σ = tightened_by x σ (stepped T growths σ x.maturity) (worth x.payment (stepped T growths (opposite σ)) (x.maturity - 1))

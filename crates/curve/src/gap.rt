@@ -2,7 +2,7 @@
 ghost use Rattle.std.specs.Prelude.{◌≡◌, ℕ, ◌+◌, ◌-◌, ◌*◌, ◌^◌, ◌<◌, ◌≤◌};
 ghost use Rattle.curve.specs.Range.{unit, least, most, edge};
 ghost use Rattle.curve.specs.Steps.{side_of, opposite, pair, reaching};
-ghost use Rattle.curve.specs.Market.{InRange, factor_of, entry, found, found_growths, admitted, limit, tightened_by, rest_of, Leaves};
+ghost use Rattle.curve.specs.Market.{factor_of, entry, found, found_growths, admitted, limit, tightened_by};
 ghost use Rattle.curve.specs.Worths.{worth, IsShort};
 ghost use Rattle.curve.specs.declared.side.Side.{Side};
 
@@ -10,6 +10,7 @@ use crate::discount::Curve;
 use crate::search::{Falling, furthest};
 use crate::side::Side;
 use crate::step::{LEAST, MOST, UNIT};
+use crate::tables::{Tables, wide};
 use instruments::kind::Instrument;
 use instruments::refusal::Refusal;
 
@@ -32,6 +33,15 @@ pub(crate) struct Gap<K> {
     ghost year: { last ≤ 120 },
     ghost started: { (side : Side) → side_of side start ≤ unit },
     ghost small: { (side : Side) → side_of side known ≤ 240000000000000000 },
+}
+
+// A worth and that of one payment more, at the factors of its year.
+fn with_payment(worth: (u64, u64), payment: u64, factors: (u32, u32)) -> (u64, u64)
+    requires fits { (σ : Side) → side_of σ worth + payment * side_of σ factors < 2 ^ 64 }
+    ensures { result ≡ pair (λ σ. side_of σ worth + payment * side_of σ factors) }
+{
+    let factors = wide(factors);
+    Side::both(|side| side.of(worth) + payment * side.of(factors))
 }
 
 impl<K: Instrument> Falling for Gap<K> {
@@ -83,7 +93,7 @@ impl<K: Instrument> Falling for Gap<K> {
 }
 
 impl<K: Instrument> Gap<K> {
-    ghost use Rattle.curve.specs.Gaps.{worth_of};
+    ghost use Rattle.curve.specs.Gaps.{worth_of, GoesOn};
 
     // The gap from a curve's last year on.
     pub(crate) fn new(curve: &Curve, instrument: K) -> Gap<K>
@@ -94,17 +104,28 @@ impl<K: Instrument> Gap<K> {
     {
         let tables = &curve.tables;
         let last = tables.last;
+        let maturity = instrument.maturity();
         let mut known = (0, 0);
-        // by the year, for which the instrument is asked as well as the table
-        for year in 1..=instrument.maturity().min(last) {
-            let factors = tables.factors[year as usize];
-            let payment = instrument.payment(year);
-            known = Side::both(|side| side.of(known) + payment * side.of(factors));
+        // By the year, for which the instrument is asked as well as the table. The year of maturity has a line of its own, so that the loop has years
+        // of the same coupon: with one loop for all, workload w2 took 945 million instructions for 819.
+        for year in 1..maturity.min(last + 1) {
+            known = with_payment(
+                known,
+                instrument.payment(year),
+                tables.factors[year as usize],
+            );
+        }
+        if maturity <= last {
+            known = with_payment(
+                known,
+                instrument.payment(maturity),
+                tables.factors[maturity as usize],
+            );
         }
         Gap {
             instrument,
             last,
-            start: tables.factors[last as usize],
+            start: wide(tables.factors[last as usize]),
             known,
         }
     }
@@ -189,26 +210,32 @@ impl<K: Instrument> Gap<K> {
         Ok((low, high))
     }
 
-    // What the payments before maturity are worth, from the worth of all of them and the factor at maturity.
-    fn rest(&self, side: Side, growths: (u64, u64), steps: (u64, u64)) -> u64
-        requires in_range { InRange growths }
-        requires steps_le_unit { side_of side steps ≤ unit }
-        requires leaves { Leaves (worth_of K.means self.now) (K.means self.now.instrument) growths steps side }
-        ensures { result ≡ rest_of (worth_of K.means self.now) (K.means self.now.instrument) growths steps side }
+    // What the payments before maturity are worth at factors that go on to it. The tables have those by then: with the factors stepped again from the
+    // growths, workload w2 took 724 million instructions for 670.
+    fn rests(&self, tables: &Tables) -> (u64, u64)
+        requires { GoesOn tables.now self.now.last self.now.known (K.means self.now.instrument) }
+        ensures { result ≡ pair (λ σ. worth (K.means self.now.instrument).payment (factor_of tables.now σ) ((K.means self.now.instrument).maturity - 1)) }
     {
-        let payment = self.instrument.payment(self.instrument.maturity());
-        self.at(side, side.opposite().of(growths)) - payment * side.of(steps)
+        let mut rests = self.known;
+        for year in self.last + 1..self.instrument.maturity() {
+            rests = with_payment(
+                rests,
+                self.instrument.payment(year),
+                tables.factors[year as usize],
+            );
+        }
+        rests
     }
 
     // The factors at maturity that lie furthest in: the steps', or what the price leaves for them at the other side's factors before.
-    pub(crate) fn tightened(&self, growths: (u64, u64), steps: (u64, u64)) -> (u64, u64)
-        requires in_range { InRange growths }
-        requires steps_le_unit { (steps.0 ≤ unit) × (steps.1 ≤ unit) }
-        requires leaves { (σ : Side) → Leaves (worth_of K.means self.now) (K.means self.now.instrument) growths steps σ }
-        ensures { result ≡ pair (λ σ. tightened_by (K.means self.now.instrument) σ (side_of σ steps) (rest_of (worth_of K.means self.now) (K.means self.now.instrument) growths steps (opposite σ))) }
+    pub(crate) fn tightened(&self, tables: &Tables) -> (u64, u64)
+        requires { GoesOn tables.now self.now.last self.now.known (K.means self.now.instrument) }
+        ensures { result ≡ pair (λ σ. tightened_by (K.means self.now.instrument) σ (factor_of tables.now σ (K.means self.now.instrument).maturity) (worth (K.means self.now.instrument).payment (factor_of tables.now (opposite σ)) ((K.means self.now.instrument).maturity - 1))) }
     {
-        let payment = self.instrument.payment(self.instrument.maturity());
-        let rests = Side::both(|side| self.rest(side, growths, steps));
+        let maturity = self.instrument.maturity();
+        let payment = self.instrument.payment(maturity);
+        let steps = wide(tables.factors[maturity as usize]);
+        let rests = self.rests(tables);
         let admitted = Side::both(|side| self.admitted(side));
         Side::both(
             |side|

@@ -7,6 +7,7 @@ ghost use Rattle.curve.specs.Questions.{forward_of, asked, asked_forward, asked_
 use crate::discount::Curve;
 use crate::side::Side;
 use crate::step::UNIT;
+use crate::tables::wide;
 use instruments::refusal::Refusal;
 
 // How far one figure lies above another, signed.
@@ -51,7 +52,7 @@ impl Curve {
         ensures encloses { (growth : ℕ → Fraction) → Encloses self.now.tables growth → IfOk result (ForwardBetween growth year) }
     {
         self.within_horizon(1, year)?;
-        let growths = self.tables.growths[year as usize];
+        let growths = wide(self.tables.growths[year as usize]);
         Ok(Side::both(|side| forward_of(side.of(growths))))
     }
 
@@ -62,7 +63,7 @@ impl Curve {
         ensures encloses { (growth : ℕ → Fraction) → Encloses self.now.tables growth → IfOk result (FactorBetween growth year) }
     {
         self.within_horizon(0, year)?;
-        let factors = self.tables.factors[year as usize];
+        let factors = wide(self.tables.factors[year as usize]);
         Ok(Side::both(|side| side.of(factors) as i64))
     }
 }

@@ -8,6 +8,7 @@ use crate::questions::forward_of;
 use crate::search::{Falling, furthest};
 use crate::side::Side;
 use crate::step::{LEAST, MOST, UNIT};
+use crate::tables::wide;
 use instruments::refusal::Refusal;
 
 // The factor after a number of years of one growth.
@@ -60,9 +61,7 @@ impl Curve {
     // The mean of the low growths of the years up to a year, where a search begins.
     fn mean_growth(&self, year: u8) -> u64 {
         let years = self.tables.growths.get(1..=year as usize).unwrap_or(&[]);
-        let sum = years
-            .iter()
-            .fold(0u64, |sum, growths| sum.wrapping_add(growths.0));
+        let sum = years.iter().fold(0u64, |sum, growths| sum.wrapping_add(u64::from(growths.0)));
         sum / u64::from(year).max(1)
     }
 
@@ -74,7 +73,7 @@ impl Curve {
         ensures encloses { (growth : ℕ → Fraction) → Possible growth → Encloses self.now.tables growth → IfOk result (RateBetween growth year) }
     {
         self.within_horizon(1, year)?;
-        let factors = self.tables.factors[year as usize];
+        let factors = wide(self.tables.factors[year as usize]);
         let growths = furthest(
             &Compound { years: year },
             (factors.1, factors.0 + 1),

@@ -10,7 +10,7 @@ ghost use Rattle.curve.specs.declared.side.Side.{Side};
 
 use crate::discount::Curve;
 use crate::side::Side;
-use crate::tables::YEARS;
+use crate::tables::{YEARS, wide};
 use instruments::refusal::Refusal;
 
 // a hundredth of a krona, in products of a krona and a unit
@@ -25,18 +25,18 @@ fn first_held(flows: &[Option<i32>]) -> Option<usize>
 
 // What an amount of kronor is worth at the factors of its year, low and high, in hundredths.
 #[tactic(auto, using(crate::proofs::Shares::portion_small), unfolding(crate::specs::Reserve::portion))]
-fn portion(factors: &(u64, u64), amount: u32) -> (u64, u64)
+fn portion(factors: &(u32, u32), amount: u32) -> (u64, u64)
     requires factors_le_unit { (σ : Side) → side_of σ factors.now ≤ unit }
     requires amount_bound { amount ≤ 2 ^ 31 }
     ensures value { result ≡ pair (portion factors.now amount) }
     ensures small { (σ : Side) → side_of σ result ≤ largest }
 {
     let kronor = u64::from(amount);
-    Side::both(|side| side.divide(kronor * side.of(*factors), HUNDREDTH))
+    Side::both(|side| side.divide(kronor * side.of(wide(*factors)), HUNDREDTH))
 }
 
 // What a flow is worth at the factors of its year, low and high, in hundredths: a loss takes the portion of the other side away.
-fn share(factors: &(u64, u64), amount: i32) -> (i64, i64)
+fn share(factors: &(u32, u32), amount: i32) -> (i64, i64)
     requires factors_le_unit { (σ : Side) → side_of σ factors.now ≤ unit }
     ensures value { result ≡ signed_pair (share factors.now amount) }
     ensures small { (σ : Side) → Within largest (signed_of σ result) }

@@ -28,6 +28,7 @@ pub fn settle<K: Instrument>(terms: &Terms, rows: &[K::Row]) -> Result<Curve, Re
     if last < terms.needed() {
         return Err(Refusal::TooShort(last));
     }
-    let market = strip::<K>(rows)?;
-    Ok(market.blended(terms))
+    let mut curve = strip::<K>(rows)?;
+    curve.blend(*terms);
+    Ok(curve)
 }

@@ -19,5 +19,6 @@ pub fn strip<K: Instrument>(rows: &[K::Row]) -> Result<Curve, Refusal>
     for row in rows {
         curve.extend(K::of_row(*row))?;
     }
+    curve.hold_on();
     Ok(curve)
 }

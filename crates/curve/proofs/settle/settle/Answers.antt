@@ -15,22 +15,22 @@ returns-then-last-needed g c = record {
   encloses = λ d a. ((λ e. omega (arith, e)), (λ e. omega (arith, e)));
 }
 
-pub returns-in_err-market : goal.returns-in_err-market
-returns-in_err-market g c =
+pub returns-in_err-curve : goal.returns-in_err-curve
+returns-in_err-curve g c =
     let p = err_from_is_err_and c.from_residual.result c.from_residual.ensures.1 in
     rw (p.1, p.2) (record {
-      curve = ap (ok_map (discount (span c.args.terms.now))) c.in_err-market.ensures.curve ∙ settled_long _ _ (omega (arith, c.if-last-needed.false, c.last_maturity-last.ensures, c.needed.ensures.value));
-      encloses = λ d a. c.in_err-market.ensures.encloses d a;
+      curve = ap (ok_map (discount (span c.args.terms.now))) c.in_err-curve.ensures.curve ∙ settled_long _ _ (omega (arith, c.if-last-needed.false, c.last_maturity-last.ensures, c.needed.ensures.value));
+      encloses = λ d a. c.in_err-curve.ensures.encloses d a;
     })
 
 pub returns : goal.returns
 returns g c =
     let terms = span c.args.terms.now in
-    let made = c.blended.result in
-    let is : made.tables ≡ discount terms c.in_ok-market.market.tables = c.blended.ensures in
+    let made = c.blend.new.self in
+    let is : made.tables ≡ discount terms c.in_ok-curve.curve.tables = c.blend.ensures in
     record {
-      curve = ap Ok is ∙ ap (ok_map (discount terms)) c.in_ok-market.ensures.curve ∙ settled_long _ _ (omega (arith, c.if-last-needed.false, c.last_maturity-last.ensures, c.needed.ensures.value));
+      curve = ap Ok is ∙ ap (ok_map (discount terms)) c.in_ok-curve.ensures.curve ∙ settled_long _ _ (omega (arith, c.if-last-needed.false, c.last_maturity-last.ensures, c.needed.ensures.value));
       encloses = λ d a. subst (λ T. Encloses T (exact_discount terms (exact_growth d))) (sym is)
-          (settled_encloses terms _ _ c.in_ok-market.ensures.curve (omega (arith, c.if-last-needed.false, c.last_maturity-last.ensures, c.needed.ensures.value, c.needed.ensures.positive))
-          (subst Ordered is made.ordered) d a (c.in_ok-market.ensures.encloses d a));
+          (settled_encloses terms _ _ c.in_ok-curve.ensures.curve (omega (arith, c.if-last-needed.false, c.last_maturity-last.ensures, c.needed.ensures.value, c.needed.ensures.positive))
+          (subst Ordered is made.ordered) d a (c.in_ok-curve.ensures.encloses d a));
     }
