@@ -1,10 +1,7 @@
 // Lines as they come: what has been opened so far, and the answer to the next one.
-ghost use Rattle.std.specs.Prelude.{◌≡◌, ℕ, length, Some, None, IfNone, Option};
-ghost use Rattle.std.proofs.Props.{props};
-ghost use Rattle.instruments.specs.Bonds.{bond_read};
-ghost use Rattle.instruments.specs.Swaps.{swap_read};
+ghost use Rattle.std.specs.Prelude.{◌≡◌, length, Some, None};
 ghost use Rattle.curve.specs.Currencies.{span};
-ghost use Rattle.book.specs.Books.{register_of, rows_of};
+ghost use Rattle.book.specs.Books.{rows_of};
 ghost use Rattle.book.specs.Register.{opened};
 ghost use Rattle.frames.specs.Inputs.{kind_for, stage_outcome};
 ghost use Rattle.frames.specs.Promises.{Keeps};
