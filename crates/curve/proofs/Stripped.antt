@@ -1,11 +1,12 @@
 -- The theorem of stripping, gap by gap: every admitted curve is enclosed, and there is none where no growth of the range fits.
-use Rattle.std.proofs.Common.{◌≡◌, ℕ, ◌+◌, ◌<◌, ◌≤◌, ◌&&◌, eqb, ltb, leb, List, [], ◌∷◌, map, Ok, Err, Result, sym, refl, ◌∙◌, subst, inl, inr, arith}
+use Rattle.std.proofs.Common.{◌≡◌, ℕ, ◌+◌, ◌<◌, ◌≤◌, ◌&&◌, eqb, ltb, leb, List, [], ◌∷◌, map, Ok, Err, Result, sym, refl, ap, ◌∙◌, subst, inl, inr, arith}
 use Rattle.std.proofs.lemmas.Bool.{cases_lt, cond_both, cond-true, cond-false, leb-false, le-leb, lt-leb, ltb-false, eqb-true, and_cases}
 use Rattle.instruments.specs.Law.{Meaning, Lawful, ok_map}
 use Rattle.instruments.specs.declared.refusal.Refusal.{Refusal}
 use Rattle.curve.specs.Range.{unit, least, most}
 use Rattle.curve.specs.Steps.{side_of, pair}
-use Rattle.curve.specs.Market.{entry, factor_of, growth_of, worth_at, found, found_growths, stepped, tightened, extended, extended_factors, with_gap, and_then, strip_from, unstripped, Ordered}
+use Rattle.curve.specs.Market.{entry, factor_of, growth_of, worth_at, found, found_growths, stepped, tightened, extended, extended_factors, with_gap, and_then, strip_from, stripped, unstripped, Ordered}
+use Rattle.curve.specs.Gaps.{held_on}
 use Rattle.curve.specs.Exact.{fraction, Between, ExactCurve, exact_growth, exact_factor, Level, AllPriced, Admitted, Encloses, Tells}
 use Rattle.curve.specs.declared.side.Side.{Side}
 use Rattle.curve.specs.declared.side.Side.TheVariants.{Low, High}
@@ -13,6 +14,8 @@ use Rattle.curve.specs.declared.tables.Tables.{Tables}
 use Rattle.curve.proofs.Enclosure.{Bounds}
 use Rattle.curve.proofs.Verdict.{Accepted, accepted, refused_why}
 use Rattle.curve.proofs.Gaps.{extended_ordered, gap_rises, growths_entry, factors_entry}
+use Rattle.curve.proofs.Bounds.{start_ordered}
+use Rattle.curve.proofs.Held.{start_held}
 use Rattle.curve.proofs.Admission.{test_fails, growths_bound, stepped_bounds, tightened_bounds}
 
 abbrev pub AllLawful : List Meaning → Type 0
@@ -114,3 +117,14 @@ module _ (c : ExactCurve) (one : 1 ≤ c.whole) (range : (t : ℕ) → 1 ≤ t �
 pub stripped_tells : (xs : List Meaning) → AllLawful xs → Ordered unstripped → (c : ExactCurve) → Admitted xs c → Tells (exact_growth c) (strip_from unstripped xs)
 unfolding unstripped
 stripped_tells xs laws o c a = strip_tells c a.one_whole a.in_range xs unstripped o (held_start c a.one_whole a.in_range) laws a.level a.priced
+
+-- the equation with the definition, and what it tells of an admitted curve
+pub record Promised {Row : Type 0} (read : Row → Meaning) (rows : List Row) (v : Result Tables Refusal) : Type 0 where
+  pub curve : v ≡ stripped (map read rows)
+  pub encloses : (c : ExactCurve) → Admitted (map read rows) c → Tells (exact_growth c) v
+
+-- so is what the code strips from its first curve
+pub promised : {Row : Type 0} (read : Row → Meaning) (lawful : (r : Row) → Lawful (read r)) (rows : List Row) (v : Result Tables Refusal) → v ≡ strip_from (held_on unstripped) (map read rows) → Promised read rows v
+promised read lawful rows v start =
+    let e : v ≡ stripped (map read rows) = start ∙ ap (λ T. strip_from T (map read rows)) start_held in
+    record { curve = e; encloses = λ c a. subst (Tells (exact_growth c)) (sym e) (stripped_tells (map read rows) (all_lawful read lawful rows) start_ordered c a) }

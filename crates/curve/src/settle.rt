@@ -7,7 +7,7 @@ ghost use Rattle.curve.specs.Exact.{ExactCurve, exact_growth, exact_discount, Ad
 ghost use Rattle.curve.specs.Settling.{last_from, settled};
 
 use crate::discount::Curve;
-use crate::strip::strip;
+use crate::strip::strip_on;
 use crate::terms::Terms;
 use instruments::kind::Instrument;
 use instruments::refusal::Refusal;
@@ -28,7 +28,8 @@ pub fn settle<K: Instrument>(terms: &Terms, rows: &[K::Row]) -> Result<Curve, Re
     if last < terms.needed() {
         return Err(Refusal::TooShort(last));
     }
-    let mut curve = strip::<K>(rows)?;
+    let mut curve = Curve::unstripped();
+    strip_on::<K>(&mut curve, rows)?;
     curve.blend(*terms);
     Ok(curve)
 }

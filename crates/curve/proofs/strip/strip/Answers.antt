@@ -1,53 +1,19 @@
-use Rattle.std.proofs.Common.{◌≡◌, ℕ, ◌+◌, ◌<◌, ◌≤◌, List, map, length, get_or, drop, Ok, Err, Result, sym, ap, ◌∙◌, subst}
-use Rattle.std.proofs.lemmas.List.{at_drop_more, at_drop_all}
+use Rattle.std.proofs.Common.{map, Ok, Err, ap, ◌∙◌}
 use Rattle.std.proofs.lemmas.Result.{err_from_is_err_and}
-use Rattle.instruments.specs.Law.{Meaning, Lawful}
-use Rattle.instruments.specs.declared.refusal.Refusal.{Refusal}
-use Rattle.curve.specs.Market.{and_then, strip_from, stripped, with_gap}
-use Rattle.curve.specs.Exact.{ExactCurve, exact_growth, Admitted, Tells}
-use Rattle.curve.specs.declared.tables.Tables.{Tables}
 use Rattle.curve.specs.Gaps.{held_on}
-use Rattle.curve.proofs.Bounds.{start_ordered}
-use Rattle.curve.proofs.Held.{gap_held, start_held}
-use Rattle.curve.proofs.Stripped.{all_lawful, stripped_tells}
+use Rattle.curve.specs.Market.{strip_from}
+use Rattle.curve.proofs.Stripped.{promised}
 use Rattle.curve.proofs.strip.strip.Goals as goal
 
--- the next row's gap, and what it leaves
-turn : {Row : Type 0} (read : Row → Meaning) (T : Tables) (rows : List Row) (i : ℕ) (row : Row) (x : Meaning) (v : Result Tables Refusal)
-    → T.last ≤ 120 → i < length rows → row ≡ get_or rows i row → x ≡ read row → v ≡ with_gap T x
-    → and_then v (λ N. strip_from N (map read (drop (i + 1) rows))) ≡ strip_from (held_on T) (map read (drop i rows))
-unfolding strip_from
-turn read T rows i row x v ends h is means e =
-    ap (λ w. and_then w (λ N. strip_from N (map read (drop (i + 1) rows)))) (e ∙ sym (gap_held T ends x) ∙ ap (with_gap (held_on T)) (means ∙ ap read is))
-    ∙ sym (at_drop_more (λ rest. strip_from (held_on T) (map read rest)) rows i row h)
-
--- the equation with the definition, and what it tells of an admitted curve
-record Promised {Row : Type 0} (read : Row → Meaning) (rows : List Row) (v : Result Tables Refusal) : Type 0 where
-  curve : v ≡ stripped (map read rows)
-  encloses : (c : ExactCurve) → Admitted (map read rows) c → Tells (exact_growth c) v
-
-promised : {Row : Type 0} (read : Row → Meaning) (lawful : (r : Row) → Lawful (read r)) (rows : List Row) (v : Result Tables Refusal) → v ≡ stripped (map read rows) → Promised read rows v
-promised read lawful rows v e = record { curve = e; encloses = λ c a. subst (Tells (exact_growth c)) (sym e) (stripped_tells (map read rows) (all_lawful read lawful rows) start_ordered c a) }
-
-pub returns-in_err-extend : goal.returns-in_err-extend
-returns-in_err-extend g c =
+pub returns-in_err-strip_on : goal.returns-in_err-strip_on
+returns-in_err-strip_on g c =
     let p = err_from_is_err_and c.from_residual.result c.from_residual.ensures.1 in
-    let all = promised g.K.Instrument.read g.met.K.Instrument.rows c.args.rows.now (Err c.in_err-extend.field-0.0)
-    (turn g.K.Instrument.read c.loop-row.curve.tables c.args.rows.now c.loop-row.row-index c.row-item.result (g.K.Instrument.means c.of_row.result) _ c.loop-row.curve.ordered.ends c.loop-row-test.true c.row-item.is c.of_row.ensures c.in_err-extend.ensures
-    ∙ c.loop-row.invariant) in
+    let all = promised g.K.Instrument.read g.met.K.Instrument.rows c.args.rows.now (Err c.in_err-strip_on.field-0.0)
+    (c.in_err-strip_on.ensures ∙ ap (λ T. strip_from (held_on T) (map g.K.Instrument.read c.args.rows.now)) c.unstripped-curve.ensures) in
     rw (p.1, p.2) (record { curve = all.curve; encloses = all.encloses })
 
-pub loop-row-init : goal.loop-row-init
-loop-row-init g c = ap (λ T. strip_from T (map g.K.Instrument.read c.args.rows.now)) (ap held_on c.unstripped-curve.ensures ∙ start_held)
-
-pub loop-row-preserved : goal.loop-row-preserved
-loop-row-preserved g c =
-    turn g.K.Instrument.read c.loop-row.curve.tables c.args.rows.now c.loop-row.row-index c.row-item.result (g.K.Instrument.means c.of_row.result) _ c.loop-row.curve.ordered.ends c.loop-row-test.true c.row-item.is c.of_row.ensures c.in_ok-extend.ensures
-    ∙ c.loop-row.invariant
-
 pub returns : goal.returns
-unfolding strip_from
 returns g c =
-    let all = promised g.K.Instrument.read g.met.K.Instrument.rows c.args.rows.now (Ok c.hold_on.new.self.tables)
-    (ap Ok c.hold_on.ensures ∙ sym (at_drop_all (λ rest. strip_from (held_on c.loop-row.curve.tables) (map g.K.Instrument.read rest)) c.args.rows.now c.loop-row.row-index c.loop-row-test.false) ∙ c.loop-row.invariant) in
+    let all = promised g.K.Instrument.read g.met.K.Instrument.rows c.args.rows.now (Ok c.strip_on.new.curve.tables)
+    (c.in_ok-strip_on.ensures ∙ ap (λ T. strip_from (held_on T) (map g.K.Instrument.read c.args.rows.now)) c.unstripped-curve.ensures) in
     record { curve = all.curve; encloses = all.encloses }

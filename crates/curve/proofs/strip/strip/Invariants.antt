@@ -1,8 +1,0 @@
-use Rattle.std.proofs.Common.{◌≡◌, map, drop}
-use Rattle.curve.specs.Gaps.{held_on}
-use Rattle.curve.specs.Market.{strip_from, stripped}
-use Rattle.curve.proofs.strip.strip.Given as goal
-
--- what is left, stripped from the curve so far with its last growths held on, gives the whole
-abbrev pub invariant-loop-row : goal.invariant-loop-row
-invariant-loop-row g l = strip_from (held_on l.curve.tables) (map g.K.Instrument.read (drop l.row-index l.rows)) ≡ stripped (map g.K.Instrument.read l.rows)
