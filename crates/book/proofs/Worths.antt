@@ -5,7 +5,7 @@ use Rattle.instruments.specs.Limits.{if_kept}
 use Rattle.instruments.specs.declared.refusal.Refusal.{Refusal}
 use Rattle.curve.specs.Market.{entry}
 use Rattle.curve.specs.Questions.{signed_pair}
-use Rattle.curve.specs.Reserve.{share, reserve_from, signed_of, largest, Within, AllWithin}
+use Rattle.curve.specs.Reserve.{share, reserve_from, signed_of, largest, SizeWithin, AllWithin}
 use Rattle.curve.specs.declared.side.Side.{Side}
 use Rattle.curve.specs.declared.side.Side.TheVariants.{Low, High}
 use Rattle.curve.proofs.Shares.{of_pair, posted, struck, reserve_small}
@@ -37,13 +37,13 @@ KeptWorth s xs = s.worth ≡ signed_pair (reserve_from s.curve.tables 0 xs)
 
 module _ (s : Settled) (xs : List (Option ℤ)) (kept : KeptWorth s xs) where
   -- there is room for one share more
-  pub room : length xs ≡ 121 → AllWithin 1000000000 xs → (σ : Side) → Within (largest * 121) (signed_of σ s.worth)
+  pub room : length xs ≡ 121 → AllWithin 1000000000 xs → (σ : Side) → SizeWithin (largest * 121) (signed_of σ s.worth)
   room long small σ =
       let at : signed_of σ s.worth ≡ reserve_from s.curve.tables 0 xs σ = of_pair s.worth (reserve_from s.curve.tables 0 xs) kept σ in
       let all = reserve_small s.curve.tables s.curve.ordered 0 xs (omega arith) (λ t. wider (get_or xs t None) (small t)) σ in
       (omega (arith, ints, at, all.0, long), omega (arith, ints, at, all.1, long))
     where
-      wider : (x : Option ℤ) → IfSome x (Within 1000000000) → IfSome x (Within 2147483648)
+      wider : (x : Option ℤ) → IfSome x (SizeWithin 1000000000) → IfSome x (SizeWithin 2147483648)
       wider None w = tt
       wider (Some a) w = (omega (arith, ints, w.0), omega (arith, ints, w.1))
 

@@ -1,7 +1,7 @@
-// What a settled book keeps: the curve of its quotations, and what its flows are worth on it.
+// What a settled book keeps: the curve of its quotations, and the sum of its flows' shares on it.
 ghost use Rattle.std.specs.Prelude.{◌≡◌, ◌*◌, ◌+ℤ◌, ◌-ℤ◌};
 ghost use Rattle.curve.specs.Market.{entry};
-ghost use Rattle.curve.specs.Reserve.{share, signed_of, largest, Within};
+ghost use Rattle.curve.specs.Reserve.{share, signed_of, largest, SizeWithin};
 ghost use Rattle.curve.specs.declared.side.Side.{Side};
 
 use curve::discount::Curve;
@@ -15,7 +15,7 @@ pub(crate) struct Settled {
 impl Settled {
     // A flow more: its share is added.
     pub(crate) fn add(&mut self, year: u8, amount: i32)
-        requires room { (σ : Side) → Within (largest * 121) (signed_of σ self.old.worth) }
+        requires room { (σ : Side) → SizeWithin (largest * 121) (signed_of σ self.old.worth) }
         ensures curve { self.new.curve ≡ self.old.curve }
         ensures worth { (σ : Side) → signed_of σ self.new.worth ≡ signed_of σ self.old.worth +ℤ share (entry self.old.curve.tables.factors year) amount σ }
     {
@@ -25,7 +25,7 @@ impl Settled {
 
     // A flow less: its share is taken away.
     pub(crate) fn take(&mut self, year: u8, amount: i32)
-        requires room { (σ : Side) → Within (largest * 121) (signed_of σ self.old.worth) }
+        requires room { (σ : Side) → SizeWithin (largest * 121) (signed_of σ self.old.worth) }
         ensures curve { self.new.curve ≡ self.old.curve }
         ensures worth { (σ : Side) → signed_of σ self.new.worth ≡ signed_of σ self.old.worth -ℤ share (entry self.old.curve.tables.factors year) amount σ }
     {

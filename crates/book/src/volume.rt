@@ -20,7 +20,8 @@ use instruments::refusal::Refusal;
 pub const MOST_PLACES: usize = 60;
 
 // The quotations stand as rows in the first `len` places, in rising order of maturity: the caller lends the places, so that a book needs no
-// memory of its own. A settled book keeps the curve of its quotations and what its flows are worth on it.
+// memory of its own. A settled book keeps the curve of its quotations and the sum of its flows' shares on it, which is
+// the reserve where no flow stands after the curve's last year.
 #[derive(Drop)]
 pub struct Book<'a, K: Instrument> {
     terms: Terms,

@@ -13,7 +13,7 @@ use Rattle.curve.specs.Range.{unit}
 use Rattle.curve.specs.Steps.{quotient, side_of, opposite, pair}
 use Rattle.curve.specs.Market.{entry, and_then, Ordered}
 use Rattle.curve.specs.Questions.{signed_pair}
-use Rattle.curve.specs.Reserve.{portion, share, flow_share, reserve_from, flow_within, flows_within, asked_reserve, hundredth, signed_of, largest, Within, AllWithin}
+use Rattle.curve.specs.Reserve.{portion, share, flow_share, reserve_from, flow_within, flows_within, asked_reserve, hundredth, signed_of, largest, SizeWithin, AllWithin}
 use Rattle.curve.specs.declared.side.Side.{Side}
 use Rattle.curve.specs.declared.side.Side.TheVariants.{Low, High}
 use Rattle.curve.specs.declared.tables.Tables.{Tables}
@@ -82,7 +82,7 @@ by_side p q more low high High = high
 
 -- the worth of the flows before year i: what is left of the table gives the rest of the reserve
 abbrev pub Summed : Tables → List (Option ℤ) → ℕ → ℤ × ℤ → Type 0
-Summed T xs i p = (σ : Side) → (signed_of σ p +ℤ reserve_from T i (drop i xs) σ ≡ reserve_from T 0 xs σ) × Within (largest * i) (signed_of σ p)
+Summed T xs i p = (σ : Side) → (signed_of σ p +ℤ reserve_from T i (drop i xs) σ ≡ reserve_from T 0 xs σ) × SizeWithin (largest * i) (signed_of σ p)
 
 module _ (T : Tables) (xs : List (Option ℤ)) (i : ℕ) (p : ℤ × ℤ) (so : Summed T xs i p) where
   -- the flow x of year i, at the factors of that year
@@ -92,7 +92,7 @@ module _ (T : Tables) (xs : List (Option ℤ)) (i : ℕ) (p : ℤ × ℤ) (so : 
     reserve_next σ = rw (here, at_factors) (at_drop_more (λ ys. reserve_from T i ys σ) xs i None below)
 
     -- it moves from what is left to the sum
-    pub summed_more : (q : ℤ × ℤ) (n : ℕ) → n ≡ i + 1 → ((σ : Side) → signed_of σ q ≡ signed_of σ p +ℤ flow_share factors x σ) → ((σ : Side) → Within largest (flow_share factors x σ)) → Summed T xs n q
+    pub summed_more : (q : ℤ × ℤ) (n : ℕ) → n ≡ i + 1 → ((σ : Side) → signed_of σ q ≡ signed_of σ p +ℤ flow_share factors x σ) → ((σ : Side) → SizeWithin largest (flow_share factors x σ)) → Summed T xs n q
     summed_more q n next more small = rw next (λ σ. (omega (arith, ints, reserve_next σ, (so σ).0, more σ), (omega (arith, ints, (so σ).1, more σ, small σ), omega (arith, ints, (so σ).1, more σ, small σ))))
 
   -- after the last flow the sum is the reserve
@@ -131,11 +131,11 @@ pub reserve_made : (T : Tables) (xs : List (Option ℤ)) (p : ℤ × ℤ) → p 
 reserve_made T xs p worth kept = ap Ok worth ∙ ap (ok_map (λ _. signed_pair (reserve_from T 0 xs))) kept
 
 -- the reserve for flows of no more than 2^31 kronor each is no larger than so many of the largest portion
-share_small : (factors : ℕ × ℕ) (a : ℤ) → ((σ : Side) → side_of σ factors ≤ unit) → Within 2147483648 a → (σ : Side) → Within largest (share factors a σ)
+share_small : (factors : ℕ × ℕ) (a : ℤ) → ((σ : Side) → side_of σ factors ≤ unit) → SizeWithin 2147483648 a → (σ : Side) → SizeWithin largest (share factors a σ)
 share_small factors (pos a) h small σ = let p = portion_small factors a h (omega (arith, ints, small)) σ in (omega (arith, ints), omega (arith, ints))
 share_small factors (negsuc a) h small σ = let p = portion_small factors (suc a) h (omega (arith, ints, small)) (opposite σ) in (omega (arith, ints), omega (arith, ints))
 
-pub reserve_small : (T : Tables) → Ordered T → (i : ℕ) (xs : List (Option ℤ)) → i + length xs ≤ 121 → AllWithin 2147483648 xs → (σ : Side) → Within (largest * length xs) (reserve_from T i xs σ)
+pub reserve_small : (T : Tables) → Ordered T → (i : ℕ) (xs : List (Option ℤ)) → i + length xs ≤ 121 → AllWithin 2147483648 xs → (σ : Side) → SizeWithin (largest * length xs) (reserve_from T i xs σ)
 unfolding reserve_from
 reserve_small T o i [] h small σ = (omega (arith, ints), omega (arith, ints))
 reserve_small T o i (x ∷ xs) h small σ =
@@ -147,6 +147,6 @@ reserve_small T o i (x ∷ xs) h small σ =
     factors_le_unit Low = omega (arith, (o.discounting i (omega arith)).0, (o.discounting i (omega arith)).1)
     factors_le_unit High = (o.discounting i (omega arith)).1
 
-    flow_small : (x : Option ℤ) → IfSome x (Within 2147483648) → Within largest (flow_share (entry T.factors i) x σ)
+    flow_small : (x : Option ℤ) → IfSome x (SizeWithin 2147483648) → SizeWithin largest (flow_share (entry T.factors i) x σ)
     flow_small None w = (omega (arith, ints), omega (arith, ints))
     flow_small (Some a) w = share_small (entry T.factors i) a factors_le_unit w σ

@@ -56,9 +56,9 @@ signed_of Low p = p.0
 signed_of High p = p.1
 
 -- a signed figure is at most n either way
-abbrev pub Within : ℕ → ℤ → Type 0
-Within n z = (neg_ℤ (pos n) ≤ℤ z) × (z ≤ℤ pos n)
+abbrev pub SizeWithin : ℕ → ℤ → Type 0
+SizeWithin n z = (neg_ℤ (pos n) ≤ℤ z) × (z ≤ℤ pos n)
 
 -- and so is every amount that is held
 abbrev pub AllWithin : ℕ → List (Option ℤ) → Type 0
-AllWithin n xs = (t : ℕ) → IfSome (slice_index_or xs t None) (Within n)
+AllWithin n xs = (t : ℕ) → IfSome (slice_index_or xs t None) (SizeWithin n)

@@ -1,6 +1,6 @@
 // One gap of a curve, from the last year that is known to the maturity of an instrument.
-ghost use Rattle.std.specs.Prelude.{◌≡◌, ℕ, ◌+◌, ◌-◌, ◌*◌, ◌^◌, ◌<◌, ◌≤◌};
-ghost use Rattle.curve.specs.Range.{unit, least, most, edge};
+ghost use Rattle.std.specs.Prelude.{◌≡◌, ◌+◌, ◌-◌, ◌*◌, ◌^◌, ◌<◌, ◌≤◌};
+ghost use Rattle.curve.specs.Range.{unit, edge};
 ghost use Rattle.curve.specs.Steps.{side_of, opposite, pair, reaching};
 ghost use Rattle.curve.specs.Market.{factor_of, entry, found, found_growths, admitted, limit, tightened_by};
 ghost use Rattle.curve.specs.Worths.{worth, IsShort};

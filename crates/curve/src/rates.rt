@@ -1,5 +1,5 @@
 // Zero rates of a curve.
-ghost use Rattle.std.specs.Prelude.{◌≡◌, ℕ, ◌≤◌, IfOk};
+ghost use Rattle.std.specs.Prelude.{◌≡◌, ℕ, IfOk};
 ghost use Rattle.curve.specs.Exact.{Fraction, Possible, Encloses, Rising, RateBetween};
 ghost use Rattle.curve.specs.Rates.{compounded, asked_rate};
 

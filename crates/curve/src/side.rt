@@ -1,5 +1,5 @@
 // The side of the truth that a figure stands on.
-ghost use Rattle.std.specs.Prelude.{◌≡◌, ℕ, ◌+◌, ◌*◌, ◌^◌, ◌<◌, ◌≤◌};
+ghost use Rattle.std.specs.Prelude.{◌≡◌, ◌+◌, ◌*◌, ◌^◌, ◌<◌, ◌≤◌};
 ghost use Rattle.curve.specs.Range.{least, most, unit};
 ghost use Rattle.curve.specs.Steps.{side_of, opposite, quotient, step};
 ghost use Rattle.curve.specs.Market.{inner};

@@ -70,11 +70,6 @@ Going (Some input) (Some before) left now pending s = Gone input before left now
 Going (Some input) None left now pending s = Unit {0}
 Going None before left now pending s = Unit {0}
 
-pub begins : (input before : Option (List ℕ)) (pending : List ℕ) (s : Stage) → pending ≡ [] → s ≡ None → Going input before input before pending s
-begins (Some input) (Some before) pending s none shut = record { rest = input; written = before; left_is = refl; now_is = refl; all = λ j. before ++ (none j ++ stage_answers (shut j) (lines input)) }
-begins (Some input) None pending s none shut = tt
-begins None before pending s none shut = tt
-
 -- a line is read and answered
 pub answers_more : (input before left left' now : Option (List ℕ)) (line front pending pending' : List ℕ) (s t : Stage) (a : Answer)
     → IfSome left (λ xs. line ≡ take_through 10 xs) → DropsThrough left left' 10 → front ≡ take (line_length line) line → eqb (length line) 0 ≡ false
@@ -111,17 +106,17 @@ writes (Some input) (Some before) left now now' pending pending' s w none g = re
 }
 
 -- where nothing is left to read, all is written
-pub ends : (input before left now now' : Option (List ℕ)) (line pending : List ℕ) (s : Stage) → IfSome left (λ xs. line ≡ take_through 10 xs) → line ≡ [] → Appends now now' pending
-    → Going input before left now pending s → Answered input before now'
+pub ends : (input before left left' now now' : Option (List ℕ)) (line pending : List ℕ) (s : Stage) → IfSome left (λ xs. line ≡ take_through 10 xs) → DropsThrough left left' 10 → line ≡ [] → Appends now now' pending
+    → Going input before left now pending s → Answered input before left' now'
 unfolding stage_answers
-ends None before left now now' line pending s read none w g = tt
-ends (Some input) None left now now' line pending s read none w g = tt
-ends (Some input) (Some before) left now now' line pending s read none w g =
+ends None before left left' now now' line pending s read dropped none w g = tt
+ends (Some input) None left left' now now' line pending s read dropped none w g = tt
+ends (Some input) (Some before) left left' now now' line pending s read dropped none w g =
     let line_is : line ≡ take_through 10 g.rest = subst (λ l. IfSome l (λ xs. line ≡ take_through 10 xs)) g.left_is read in
     let over : g.rest ≡ [] = none_read g.rest (sym line_is ∙ none) in
     let all : g.written ++ pending ≡ before ++ input_answers input =
     ap (λ l. g.written ++ l) (sym (append-nil pending) ∙ ap (λ r. pending ++ stage_answers s (lines r)) (sym over)) ∙ g.all in
-    wrote g.written pending now' (subst (λ n. Appends n now' pending) g.now_is w) ∙ ap Some all
+    (subst (λ l. DropsThrough l left' 10) g.left_is dropped ∙ ap (λ r. Some (drop_through 10 r)) over, wrote g.written pending now' (subst (λ n. Appends n now' pending) g.now_is w) ∙ ap Some all)
 
 -- what a read appends to an empty line is the line
 pub read_is : (left : Option (List ℕ)) (cleared items line : List ℕ) → cleared ≡ [] → line ≡ items → IfSome left (λ xs. items ≡ cleared ++ take_through 10 xs) → IfSome left (λ xs. line ≡ take_through 10 xs)

@@ -1,4 +1,4 @@
--- What a line comes to, before a book is open and after.
+-- What is read of a line, and what it comes to on an open book.
 use Rattle.std.specs.Prelude.{ℕ, Bool, cond, List, drop, Some, None, Ok, Err, Option, Result, ◌==◌}
 use Rattle.instruments.specs.Law.{Meaning, ok_map}
 use Rattle.instruments.specs.declared.refusal.Refusal.{Refusal}

@@ -17,7 +17,7 @@ fn first_newline(input: &[u8]) -> Option<usize>
 }
 
 // The first line of an input, without its newline, and where the next begins. The place stays: its contract and the values of the test
-// `cuts` hold it, and neither may go; in this crate `Lines` stands for it.
+// `cuts` hold it, and neither may go; `Lines` goes from line to line by it.
 pub fn first_line(input: &[u8]) -> Option<(&[u8], usize)>
     ensures value { option_map (λ x. (x.0.now, x.1)) result ≡ front_line input.now }
     ensures steps { MatchOption result (lines input.now ≡ []) (λ x. lines input.now ≡ x.0.now ∷ lines (drop x.1 input.now)) }

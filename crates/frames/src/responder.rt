@@ -27,7 +27,7 @@ pub struct Responder<'a> {
 impl<'a> Responder<'a> {
     ghost use Rattle.frames.specs.Stages.{stage_of};
 
-    // No book is open. The places are lent for the one that a line will open.
+    // No book is open. The places are lent for the one that a line will open; what they hold then is left open.
     pub fn new(
         swaps: &'a mut [SwapRow; MOST_PLACES],
         bonds: &'a mut [BondRow; MOST_PLACES],

@@ -13,13 +13,14 @@ use std::alloc::Global;
 use std::io;
 use std::io::{BufRead, BufReader, ErrorKind, Read, Write};
 
-// Answers the lines that a reader gives. What is answered is written before more input is waited for.
+// Answers the lines that a reader gives. What is answered is written before more input is waited for. Of readers and writers whose bytes are
+// unknown nothing is said, nor of either where reading, writing or memory fails; when it fails is left open.
 pub fn serve<R: Read + Drop, W: Write>(
     heap: Global,
     input: &mut BufReader<R>,
     out: &mut W,
 ) -> io::Result<()>
-    ensures answers { OnOk result (Answered (reader_remaining R.remaining input.old) (W.contents out.old) (W.contents out.new)) }
+    ensures answers { OnOk result (Answered (reader_remaining R.remaining input.old) (W.contents out.old) (reader_remaining R.remaining input.new) (W.contents out.new)) }
     ensures promise { OnOk result (IfSome (reader_remaining R.remaining input.old) (λ bytes. InputPromise bytes)) }
 {
     let mut swaps = [SwapRow::default(); MOST_PLACES];
@@ -27,6 +28,7 @@ pub fn serve<R: Read + Drop, W: Write>(
     let mut responder = Responder::new(&mut swaps, &mut bonds);
     let mut line = Vec::new(heap);
     let mut answers = Vec::new(heap);
+    // a reader may never end, so the turns are counted
     for _ in 0..u64::MAX {
         line.clear();
         input.read_until(NEWLINE, &mut line)?;
@@ -34,7 +36,8 @@ pub fn serve<R: Read + Drop, W: Write>(
             return out.write_all(&answers);
         };
         responder.answer(front).write(&mut answers)?;
-        if input.buffer().is_empty() {
+        // what is read but not yet answered is then a part of a line, so more is waited for next
+        if !input.buffer().contains(&NEWLINE) {
             out.write_all(&answers)?;
             answers.clear();
         }

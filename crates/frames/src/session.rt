@@ -1,4 +1,4 @@
-// An open book: what a line calls, and what is answered.
+// A book and its class: what a line calls, and what is answered.
 ghost use Rattle.std.specs.Prelude.{◌≡◌, min, length};
 ghost use Rattle.instruments.specs.Law.{ok_map};
 ghost use Rattle.curve.specs.Currencies.{span};
@@ -54,7 +54,7 @@ fn call_of<K: Instrument>(class: Class, letter: Letter, bytes: &[u8]) -> Result<
     }
 }
 
-// A book that is open, and the class of insurance that it values.
+// A book, and the class of insurance that it values once it is open.
 #[derive(Drop)]
 pub(crate) struct Session<'a, K: Instrument> {
     pub(crate) book: Book<'a, K>,

@@ -9,7 +9,7 @@ use book::volume::MOST_PLACES;
 use instruments::bond::BondRow;
 use instruments::refusal::Refusal;
 use instruments::swap::SwapRow;
-use std::io::BufReader;
+use std::io::{self, BufReader, ErrorKind, Read};
 use std::test::Fail;
 
 #[test]
@@ -151,5 +151,32 @@ fn pieces(rt: HostRuntime) -> Result<(), Fail> {
         serve(heap, &mut input, &mut out)?;
         assert!(rt; out.as_slice() == answers.as_slice());
     }
+    Ok(())
+}
+
+// Gives a line and the begin of another, and then fails.
+#[derive(Drop)]
+struct Broken {
+    given: bool,
+}
+
+impl Read for Broken {
+    fn read(&mut self, buf: &mut [u8]) -> io::Result<usize> {
+        if self.given {
+            return Err(io::Error::from(ErrorKind::BrokenPipe));
+        }
+        self.given = true;
+        let mut source: &[u8] = b"52\n5";
+        source.read(buf)
+    }
+}
+
+#[test]
+fn answered_before_more_is_read(rt: HostRuntime) -> Result<(), Fail> {
+    let heap = rt.alloc();
+    let mut input = BufReader::with_capacity(heap, 100, Broken { given: false })?;
+    let mut out = Vec::new(heap);
+    assert!(rt; serve(heap, &mut input, &mut out).is_err());
+    assert!(rt; out.as_slice() == b"520300\n".as_slice());
     Ok(())
 }

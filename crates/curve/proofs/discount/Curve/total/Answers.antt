@@ -2,7 +2,7 @@ use Rattle.std.proofs.Common.{◌≡◌, length, length-append, Some, None, sym,
 use Rattle.std.proofs.lemmas.Int.{ints, to_z-of_z}
 use Rattle.std.proofs.lemmas.Slice.Zip.{zip_turn, zip_end}
 use Rattle.curve.specs.Questions.{signed_pair}
-use Rattle.curve.specs.Reserve.{share, largest, Within}
+use Rattle.curve.specs.Reserve.{share, largest, SizeWithin}
 use Rattle.curve.specs.declared.side.Side.{Side}
 use Rattle.curve.specs.declared.side.Side.TheVariants.{Low, High}
 use Rattle.curve.proofs.Shares.{by_side, of_pair, summed_more, summed_all}
@@ -33,7 +33,7 @@ loop-flow-preserved-in-Some-flow c =
     let so = c.loop-flow.invariant in
     let fits : SFits w32 z = search rules in
     let value : c.share-share.result ≡ signed_pair (share factors z) = more.value ∙ ap (λ a. signed_pair (share factors a)) (to_z-of_z w32 z fits) in
-    let small : (σ : Side) → Within largest (share factors z σ) = λ σ. subst (Within largest) (of_pair _ (share factors z) value σ) (more.small σ) in
+    let small : (σ : Side) → SizeWithin largest (share factors z σ) = λ σ. subst (SizeWithin largest) (of_pair _ (share factors z) value σ) (more.small σ) in
     let t = zip_turn xs T.factors c.loop-flow.yielded _ _ c.next.new.self _ (search rules) (search rules) c.loop-flow.yielded_by _ c.in-Some.is c.next.ensures.steps in
     summed_more T xs i c.loop-flow.total c.loop-flow.invariant (Some z) factors t.0 (sym c.in-Some-flow.is ∙ t.2 None) (t.3 (0, 0)) _ _ (simp length-append)
     (by_side c.loop-flow.total _ (share factors z) (omega (arith, ints, ap (λ p. p.0) value, (so Low).1, more.small Low, t.0)) (omega (arith, ints, ap (λ p. p.1) value, (so High).1, more.small High, t.0)))
