@@ -1,7 +1,7 @@
 //! A discount curve as two figures for each year: stripped from quotations, blended towards the ultimate forward rate, and asked.
 #![tactic(auto)]
 
-mod blend;
+pub mod blend;
 pub mod discount;
 pub mod figures;
 mod gap;

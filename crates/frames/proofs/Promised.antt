@@ -12,9 +12,10 @@ use Rattle.instruments.specs.declared.class.Class.{Class}
 use Rattle.instruments.specs.declared.refusal.Refusal.{Refusal}
 use Rattle.instruments.specs.declared.refusal.Refusal.TheVariants.{BadCode, OutOfTurn}
 use Rattle.instruments.specs.declared.swap.SwapRow.{SwapRow}
-use Rattle.curve.specs.Currencies.{blend_span, currency_span, letters}
+use Rattle.curve.specs.Currencies.{blend_span, currency_span, letters, span}
 use Rattle.curve.specs.Market.{and_then}
 use Rattle.curve.specs.declared.terms.Blend.{Blend}
+use Rattle.curve.specs.declared.terms.Terms.{Terms}
 use Rattle.book.specs.Promise.{Promise, after}
 use Rattle.book.specs.Register.{Register, opened}
 use Rattle.book.specs.declared.call.Call.{Call}
@@ -24,6 +25,7 @@ use Rattle.frames.specs.Frames.{frame_read}
 use Rattle.frames.specs.Inputs.{kind_for, with_class, with_kind, opening_of, frame_opens, opening_answer, read_opens, line_opens, opened_by, stage_after}
 use Rattle.frames.specs.Kinds.{kind_named}
 use Rattle.frames.specs.Promises.{with_call, with_read, open_calls, after_opening, ClosedPromise, StageStands, Keeps}
+use Rattle.frames.specs.Reads.{kind_of}
 use Rattle.frames.specs.Sessions.{Kind, line_read, call_of, opens, frame_call, call_outcome, read_outcome, line_outcome}
 use Rattle.frames.specs.declared.answer.Answer.{Answer}
 use Rattle.frames.specs.declared.frame.Frame.{Frame}
@@ -146,18 +148,29 @@ swap_lawful r = search rules
 bond_lawful : (r : BondRow) → Lawful (bond_read r)
 bond_lawful r = search rules
 
-made : {Row : Type 0} (read : Row → Meaning) → ((r : Row) → Lawful (read r)) → (w : Result Row Refusal) → LawfulMade (ok_map read w)
-made read law (Ok r) = law r
-made read law (Err refusal) = tt
+-- the calls of lines at a kind of instrument with the law
+pub lines_promised : {Row : Type 0} (framed : ℕ) (read : Row → Meaning) (making : Class → List ℕ → Result Row Refusal) (class : Class) → ((r : Row) → Lawful (read r)) → (terms : Terms) (ls : List (List ℕ))
+    → Promise (span terms) 60 (open_calls (kind_of framed read making class) ls)
+lines_promised {Row} framed read making class law terms ls = promised terms.blend 60 (open_calls k ls) (lines_lawful k made ls)
+  where
+    k : Kind
+    k = kind_of framed read making class
 
-kind_lawful : (kind : Named) (class : Class) (body : List ℕ) → LawfulMade ((kind_for kind class).quoted body)
-kind_lawful Swap class body = made swap_read swap_lawful (swap_body class body)
-kind_lawful Bond class body = made bond_read bond_lawful (bond_body class body)
+    go : (w : Result Row Refusal) → LawfulMade (ok_map read w)
+    go (Ok r) = law r
+    go (Err refusal) = tt
+
+    made : (body : List ℕ) → LawfulMade (k.quoted body)
+    made body = go (making class body)
 
 -- the calls of lines on a book that is opened
-opened_promised : (kind : Named) (class : Class) (span : Option (ℕ × ℕ)) → Spans span → (ls : List (List ℕ)) → Promise span 60 (open_calls (kind_for kind class) ls)
+kind_promised : (kind : Named) (class : Class) (terms : Terms) (ls : List (List ℕ)) → Promise (span terms) 60 (open_calls (kind_for kind class) ls)
+kind_promised Swap class = lines_promised 6 swap_read swap_body class swap_lawful
+kind_promised Bond class = lines_promised 10 bond_read bond_body class bond_lawful
+
+opened_promised : (kind : Named) (class : Class) (s : Option (ℕ × ℕ)) → Spans s → (ls : List (List ℕ)) → Promise s 60 (open_calls (kind_for kind class) ls)
 unfolding Spans
-opened_promised kind class span s ls = subst (λ s. Promise s 60 (open_calls (kind_for kind class) ls)) s.1 (promised s.0 60 (open_calls (kind_for kind class) ls) (lines_lawful (kind_for kind class) (kind_lawful kind class) ls))
+opened_promised kind class s b ls = subst (λ s. Promise s 60 (open_calls (kind_for kind class) ls)) b.1 (kind_promised kind class (record { blend = b.0 }) ls)
 
 pub closed_promised : (ls : List (List ℕ)) → ClosedPromise ls
 unfolding ClosedPromise
