@@ -1,8 +1,17 @@
 //! Answers stored inputs and holds each answer to the stored one, byte for byte.
 #![tactic(auto)]
 
+ghost use Rattle.std.specs.Prelude.{◌≡◌, IfOk};
+ghost use Rattle.frames.specs.Inputs.{input_answers};
+
 use frames::respond::respond;
+use frames::serve::serve;
+use std::alloc::Global;
+use std::io::BufReader;
 use std::{fs, io};
+
+// so many bytes are read at once: fewer than most inputs have
+const CHUNK: usize = 1 << 10;
 
 // An input and its answers, in the files of one stem.
 #[derive(Clone, Copy)]
@@ -50,13 +59,27 @@ const GROUPS: [Group; 9] = [
     },
 ];
 
-// Whether the input of a stem is answered as stored.
+// The answers to an input as the program `yugrenda` gives them, from a reader to a writer.
+fn served(heap: Global, input: &[u8]) -> io::Result<Vec<u8>>
+    ensures { IfOk result (λ out. out.items ≡ input_answers input.now) }
+{
+    let mut out = Vec::new(heap);
+    serve(
+        heap,
+        &mut BufReader::with_capacity(heap, CHUNK, input)?,
+        &mut out,
+    )?;
+    Ok(out)
+}
+
+// Whether the input of a stem is answered as stored, in memory and as the program answers it.
 fn agrees(rt: &HostRuntime, stem: &str) -> io::Result<bool> {
     let heap = rt.alloc();
     let input = fs::read(rt, &format!(in heap; "{stem}.frames")?)?;
     let expected = fs::read(rt, &format!(in heap; "{stem}.answers")?)?;
     let given = respond(heap, input.as_slice())?;
-    Ok(given.as_slice() == expected.as_slice())
+    let served = served(heap, input.as_slice())?;
+    Ok(given.as_slice() == expected.as_slice() && served.as_slice() == expected.as_slice())
 }
 
 fn main(rt: HostRuntime) -> io::Result<()> {
