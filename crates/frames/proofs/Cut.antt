@@ -1,8 +1,9 @@
 -- The first line of an input, found by its newline.
-use Rattle.std.proofs.Common.{◌≡◌, ℕ, suc, min, ◌+◌, ◌<◌, ◌≤◌, true, false, cond, eqb, List, [], ◌∷◌, length, take, drop, Some, None, sym, refl, ap, ◌∙◌, arith}
+use Rattle.std.proofs.Common.{◌≡◌, ℕ, suc, min, ◌+◌, ◌<◌, ◌≤◌, Bool, true, false, cond, eqb, List, [], ◌∷◌, ◌++◌, length, take, drop, Some, None, sym, refl, ap, ◌∙◌, arith}
 use Rattle.std.specs.List.{position, position_or_len}
 use Rattle.std.proofs.lemmas.Bool.{cond-false}
 use Rattle.std.proofs.lemmas.Grind.{common_steps}
+use Rattle.std.proofs.lemmas.List.{take-append-le}
 use Rattle.std.proofs.lemmas.List.Recursion.{is_position_or_len}
 use Rattle.frames.specs.Lines.{onto, lines, line_length, next_line, front_line}
 
@@ -53,3 +54,24 @@ ended input end e = grind (arith, common_steps, next_is input, length_is input)
 -- no newline at all
 pub whole : (input : List ℕ) → None ≡ position (λ b. eqb b 10) input → (line_length input ≡ length input) × (next_line input ≡ length input)
 whole input e = grind (arith, common_steps, next_is input, length_is input, short input)
+
+-- the same before more bytes
+before_more : (bs rest : List ℕ) → line_length bs < length bs → (line_length (bs ++ rest) ≡ line_length bs) × (next_line (bs ++ rest) ≡ line_length bs + 1)
+before_more [] rest h = absurd (omega (arith, h))
+before_more (b ∷ bs) rest h = go (eqb b 10) h (before_more bs rest)
+  where
+    go : (t : Bool) → cond t 0 (suc (line_length bs)) < suc (length bs) → (line_length bs < length bs → (line_length (bs ++ rest) ≡ line_length bs) × (next_line (bs ++ rest) ≡ line_length bs + 1))
+        → (cond t 0 (suc (line_length (bs ++ rest))) ≡ cond t 0 (suc (line_length bs))) × (cond t 1 (suc (next_line (bs ++ rest))) ≡ cond t 0 (suc (line_length bs)) + 1)
+    go true h later = (refl, omega arith)
+    go false h later = let more = later (omega (arith, h)) in (ap suc more.0, omega (arith, more.1))
+
+-- a whole line at the front of some bytes is the first line of these and more
+pub stands : (bytes rest line : List ℕ) (end : ℕ) → Some end ≡ position (λ b. eqb b 10) bytes → line ≡ take end bytes → lines (bytes ++ rest) ≡ line ∷ lines (drop (end + 1) (bytes ++ rest))
+stands bytes rest line end found is =
+    let at = ended bytes end found in
+    let more = before_more bytes rest (omega (arith, at.0, at.2)) in
+    (cut (bytes ++ rest) line end (end + 1) (some bytes at.1) (is ∙ sym (take-append-le end bytes rest (omega (arith, at.0)))) (more.0 ∙ at.2, more.1 ∙ ap (λ n. n + 1) at.2)).1
+  where
+    some : (bytes : List ℕ) → eqb (length bytes) 0 ≡ false → eqb (length (bytes ++ rest)) 0 ≡ false
+    some [] e = cc
+    some (b ∷ bs) e = grind arith

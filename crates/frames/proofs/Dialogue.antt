@@ -1,16 +1,17 @@
 -- A dialogue: lines are read and answered, and their answers written.
-use Rattle.std.proofs.Common.{◌≡◌, ℕ, suc, Bool, true, false, cond, eqb, List, [], ◌∷◌, ◌++◌, length, take, drop, Some, None, Ok, Err, Option, Result, IfSome, OnOk, sym, refl, ap, ◌∙◌, subst}
+use Rattle.std.proofs.Common.{◌≡◌, ℕ, suc, ◌+◌, Bool, true, false, cond, if◌then◌else◌, eqb, List, [], ◌∷◌, ◌++◌, length, take, drop, Some, None, Option, IfSome, sym, refl, ap, ◌∙◌, subst, arith}
 use Rattle.std.proofs.lemmas.Bool.{cond-true, cond-false}
 use Rattle.std.proofs.lemmas.List.{append_assoc, append-nil}
-use Rattle.std.specs.Io.BufRead.{take_through, drop_through, DropsThrough}
-use Rattle.std.specs.Io.KnownBytes.{Appends}
+use Rattle.std.specs.Io.BufRead.{take_through, drop_through, DropsThrough, DropsConsumable}
+use Rattle.std.specs.Io.KnownBytes.{Appends, prepend_known}
+use Rattle.std.specs.List.{position}
 use Rattle.frames.specs.Answers.{answer_line}
 use Rattle.frames.specs.Dialogues.{Answered}
 use Rattle.frames.specs.Inputs.{Stage, stage_outcome, stage_answers, input_answers}
 use Rattle.frames.specs.Lines.{lines, line_length, next_line, front_line}
 use Rattle.frames.specs.Promises.{InputPromise}
 use Rattle.frames.specs.declared.answer.Answer.{Answer}
-use Rattle.frames.proofs.Cut.{lines_step}
+use Rattle.frames.proofs.Cut.{lines_step, ended, stands}
 use Rattle.frames.proofs.Promised.{closed_promised}
 use Rattle.frames.proofs.Served.{served_turn}
 
@@ -70,24 +71,39 @@ Going (Some input) (Some before) left now pending s = Gone input before left now
 Going (Some input) None left now pending s = Unit {0}
 Going None before left now pending s = Unit {0}
 
+-- a line is answered
+pub answers_next : (input before left left' now : Option (List ℕ)) (front pending pending' : List ℕ) (s t : Stage) (a : Answer)
+    → IfSome left (λ xs. (rest : List ℕ) × (left' ≡ Some rest) × (lines xs ≡ front ∷ lines rest))
+    → (t, a) ≡ stage_outcome s front → pending' ≡ pending ++ answer_line a → Going input before left now pending s → Going input before left' now pending' t
+answers_next None before left left' now front pending pending' s t a next outcome more g = tt
+answers_next (Some input) None left left' now front pending pending' s t a next outcome more g = tt
+answers_next (Some input) (Some before) left left' now front pending pending' s t a next outcome more g =
+    let n = subst (λ l. IfSome l (λ xs. (rest : List ℕ) × (left' ≡ Some rest) × (lines xs ≡ front ∷ lines rest))) g.left_is next in record {
+      rest = n.0;
+      written = g.written;
+      left_is = n.1;
+      now_is = g.now_is;
+      all = ap (λ l. g.written ++ l) (served_turn s t front (lines n.0) (lines g.rest) pending pending' a outcome n.2 more) ∙ g.all;
+    }
+
 -- a line is read and answered
 pub answers_more : (input before left left' now : Option (List ℕ)) (line front pending pending' : List ℕ) (s t : Stage) (a : Answer)
     → IfSome left (λ xs. line ≡ take_through 10 xs) → DropsThrough left left' 10 → front ≡ take (line_length line) line → eqb (length line) 0 ≡ false
     → (t, a) ≡ stage_outcome s front → pending' ≡ pending ++ answer_line a → Going input before left now pending s → Going input before left' now pending' t
-answers_more None before left left' now line front pending pending' s t a read dropped cut some outcome more g = tt
-answers_more (Some input) None left left' now line front pending pending' s t a read dropped cut some outcome more g = tt
-answers_more (Some input) (Some before) left left' now line front pending pending' s t a read dropped cut some outcome more g =
-    let line_is : line ≡ take_through 10 g.rest = subst (λ l. IfSome l (λ xs. line ≡ take_through 10 xs)) g.left_is read in
-    let split = line_read g.rest line front line_is cut some in record {
-      rest = drop_through 10 g.rest;
-      written = g.written;
-      left_is = subst (λ l. DropsThrough l left' 10) g.left_is dropped;
-      now_is = g.now_is;
-      all = ap (λ l. g.written ++ l) (turn (drop_through 10 g.rest) (lines g.rest) split) ∙ g.all;
-    }
+answers_more input before left left' now line front pending pending' s t a read dropped cut some = answers_next input before left left' now front pending pending' s t a (next left read dropped)
   where
-    turn : (rest : List ℕ) (ls : List (List ℕ)) → ls ≡ front ∷ lines rest → pending' ++ stage_answers t (lines rest) ≡ pending ++ stage_answers s ls
-    turn rest ls split = served_turn s t front (lines rest) ls pending pending' a outcome split more
+    next : (left : Option (List ℕ)) → IfSome left (λ xs. line ≡ take_through 10 xs) → DropsThrough left left' 10 → IfSome left (λ xs. (rest : List ℕ) × (left' ≡ Some rest) × (lines xs ≡ front ∷ lines rest))
+    next None read dropped = tt
+    next (Some xs) read dropped = (drop_through 10 xs, dropped, line_read xs line front read cut some)
+
+-- a whole line that stands in what is read already
+pub taken : (none : Bool) (buffer : List ℕ) (inner left' : Option (List ℕ)) (front : List ℕ) (end : ℕ) → Some end ≡ position (λ b. eqb b 10) buffer → front ≡ take end buffer
+    → DropsConsumable (if none then None else prepend_known buffer inner) left' (Some (length buffer)) (end + 1)
+    → IfSome (if none then None else prepend_known buffer inner) (λ xs. (rest : List ℕ) × (left' ≡ Some rest) × (lines xs ≡ front ∷ lines rest))
+taken true buffer inner left' front end found is drops = tt
+taken false buffer None left' front end found is drops = tt
+taken false buffer (Some rest) left' front end found is drops =
+    (drop (end + 1) (buffer ++ rest), drops (omega (arith, (ended buffer end found).0)), stands buffer rest front end found is)
 
 -- what is to be written is
 wrote : (written bs : List ℕ) (now : Option (List ℕ)) → Appends (Some written) now bs → now ≡ Some (written ++ bs)
@@ -129,10 +145,6 @@ front_is line front n e = go (eqb (length line) 0) refl e
     go : (t : Bool) → eqb (length line) 0 ≡ t → ◌≡◌ {A = Option (List ℕ × ℕ)} (Some (front, n)) (cond t None (Some (take (line_length line) line, next_line line))) → (front ≡ take (line_length line) line) × (eqb (length line) 0 ≡ false)
     go true t e = cc
     go false t e = let pair : ◌≡◌ {A = List ℕ × ℕ} (front, n) (take (line_length line) line, next_line line) = cc in (ap (λ p. p.0) pair, t)
-
-pub on_ok : {A E : Type 0} {P Q : Type 0} → (r : Result A E) → (P → Q) → OnOk r P → OnOk r Q
-on_ok (Ok x) f p = f p
-on_ok (Err e) f p = tt
 
 pub known_promised : (known : Option (List ℕ)) → IfSome known (λ bytes. InputPromise bytes)
 known_promised (Some bytes) = closed_promised (lines bytes)

@@ -62,7 +62,9 @@ impl Answer {
         }
     }
 
-    // Appends the line of the answer, or nothing where there is no memory.
+    // Appends the line of the answer, or nothing where there is no memory. Inlined: called, it made a million questions take 445 million
+    // instructions for 426.
+    #[inline(always)]
     pub fn write(&self, out: &mut Vec<u8>) -> Result<(), AllocError>
         ensures { out.new.items ≡ (if is_ok result then out.old.items ++ answer_line self.now else out.old.items) }
     {

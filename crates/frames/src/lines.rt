@@ -10,7 +10,7 @@ use std::marker::Model;
 pub(crate) const NEWLINE: u8 = b'\n';
 
 // Where the first newline stands.
-fn first_newline(input: &[u8]) -> Option<usize>
+pub(crate) fn first_newline(input: &[u8]) -> Option<usize>
     ensures { result ≡ position (λ b. b == NEWLINE) input.now }
 {
     input.iter().position(|byte| *byte == NEWLINE)

@@ -4,7 +4,7 @@ ghost use Rattle.std.specs.Io.Buffered.{reader_remaining};
 ghost use Rattle.frames.specs.Dialogues.{Answered};
 ghost use Rattle.frames.specs.Promises.{InputPromise};
 
-use crate::lines::{NEWLINE, first_line};
+use crate::lines::{NEWLINE, first_line, first_newline};
 use crate::responder::Responder;
 use book::volume::MOST_PLACES;
 use instruments::bond::BondRow;
@@ -30,16 +30,21 @@ pub fn serve<R: Read + Drop, W: Write>(
     let mut answers = Vec::new(heap);
     // a reader may never end, so the turns are counted
     for _ in 0..u64::MAX {
-        line.clear();
-        input.read_until(NEWLINE, &mut line)?;
-        let Some((front, _)) = first_line(&line) else {
-            return out.write_all(&answers);
-        };
-        responder.answer(front).write(&mut answers)?;
-        // what is read but not yet answered is then a part of a line, so more is waited for next
-        if !input.buffer().contains(&NEWLINE) {
+        // a whole line that is read already is answered where it stands
+        if let Some(end) = first_newline(input.buffer()) {
+            responder
+                .answer(&input.buffer()[..end])
+                .write(&mut answers)?;
+            input.consume(end + 1);
+        } else {
             out.write_all(&answers)?;
             answers.clear();
+            line.clear();
+            input.read_until(NEWLINE, &mut line)?;
+            let Some((front, _)) = first_line(&line) else {
+                return Ok(());
+            };
+            responder.answer(front).write(&mut answers)?;
         }
     }
     Err(io::Error::from(ErrorKind::TimedOut))
